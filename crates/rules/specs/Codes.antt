@@ -1,0 +1,84 @@
+-- The codes of document 01 under the Rust's names, and its two tables.
+use Prim.Native.Nat.{ℕ}
+use mathlib.Core.Bool.{Bool, true, false}
+use mathlib.Core.List.{List, [], _∷_}
+use lib.Dec.{eqb}
+pub mod BaseToken
+pub mod ValueTypeKeyword
+pub mod ParseNode
+pub mod BinaryOp
+pub mod UnaryOp
+pub mod ComparisonOp
+pub mod DeclarationFlag
+pub mod Refusal
+pub mod Limit
+
+infix 68 _⇒_
+abbrev pub pick : {A : Type 0} → Bool → A → A → A
+pick true a b = a
+pick false a b = b
+
+-- a row of a table: a key and its entry
+abbrev pub _⇒_ : {A : Type 0} → ℕ → A → ℕ × A
+_⇒_ k a = (k, a)
+
+-- the entry of a table for a key, or the last argument where it has none
+abbrev pub entry : {A : Type 0} → ℕ → List (ℕ × A) → A → A
+entry k [] d = d
+entry k (e ∷ es) d = pick (eqb k (e .0)) (e .1) (entry k es d)
+
+-- The refusal's number by the kind that was expected, 0 where none is.
+abbrev pub refusalOf : ℕ → ℕ
+refusalOf k = entry k
+    (BaseToken.Assignment ⇒ Refusal.ExpectedAssignment
+    ∷ BaseToken.BraceLeft ⇒ Refusal.ExpectedBraceLeft
+    ∷ BaseToken.BraceRight ⇒ Refusal.ExpectedBraceRight
+    ∷ BaseToken.BracketRight ⇒ Refusal.ExpectedBracketRight
+    ∷ BaseToken.ParenLeft ⇒ Refusal.ExpectedParenLeft
+    ∷ BaseToken.ParenRight ⇒ Refusal.ExpectedParenRight
+    ∷ BaseToken.Pipe ⇒ Refusal.ExpectedPipe
+    ∷ BaseToken.Semicolon ⇒ Refusal.ExpectedSemicolon
+    ∷ BaseToken.Identifier ⇒ Refusal.ExpectedIdentifier
+    ∷ BaseToken.Comma ⇒ Refusal.ExpectedComma
+    ∷ [])
+    0
+
+-- A part of a node (document 01, "Parts of a node"): the node so many places back, or the one that its load names.
+pub data Part : Type 0 where
+  back : ℕ → Part
+  linked : Part
+
+-- The parts by the node's kind, in their order.
+abbrev pub partsOf : ℕ → List Part
+partsOf k = entry k
+    (ParseNode.ConstantDeclaration ⇒ (back 1 ∷ back 2 ∷ back 3 ∷ back 4 ∷ [])
+    ∷ ParseNode.StructureDeclaration ⇒ (back 1 ∷ back 2 ∷ back 3 ∷ back 4 ∷ [])
+    ∷ ParseNode.Item ⇒ (linked ∷ [])
+    ∷ ParseNode.List ⇒ (linked ∷ [])
+    ∷ ParseNode.ListItem ⇒ (back 1 ∷ linked ∷ [])
+    ∷ ParseNode.Deref ⇒ (back 1 ∷ back 2 ∷ back 3 ∷ [])
+    ∷ ParseNode.Binary ⇒ (back 1 ∷ back 2 ∷ back 3 ∷ [])
+    ∷ ParseNode.Unary ⇒ (back 1 ∷ back 2 ∷ [])
+    ∷ ParseNode.TypeCast ⇒ (back 1 ∷ back 2 ∷ [])
+    ∷ ParseNode.CompositeValueType ⇒ (back 1 ∷ back 2 ∷ [])
+    ∷ ParseNode.FunctionCall ⇒ (back 1 ∷ back 2 ∷ [])
+    ∷ ParseNode.Parenthesized ⇒ (back 1 ∷ [])
+    ∷ ParseNode.BitCast ⇒ (back 1 ∷ [])
+    ∷ ParseNode.SizeOf ⇒ (back 1 ∷ [])
+    ∷ ParseNode.LengthOf ⇒ (back 1 ∷ [])
+    ∷ ParseNode.DerefStepElement ⇒ (back 1 ∷ [])
+    ∷ ParseNode.Structural ⇒ (back 1 ∷ [])
+    ∷ ParseNode.ArrayLiteral ⇒ (back 1 ∷ [])
+    ∷ ParseNode.IdentifierAndType ⇒ (back 1 ∷ [])
+    ∷ ParseNode.IdentifierAndExpression ⇒ (back 1 ∷ [])
+    ∷ ParseNode.TypedIntegerLiteral ⇒ (back 1 ∷ [])
+    ∷ ParseNode.CompositeStringLiteral ⇒ (back 1 ∷ [])
+    ∷ ParseNode.ArrayVT ⇒ (back 1 ∷ [])
+    ∷ ParseNode.ArrayWithNamedLengthVT ⇒ (back 1 ∷ [])
+    ∷ ParseNode.SliceVT ⇒ (back 1 ∷ [])
+    ∷ ParseNode.EndlessArrayVT ⇒ (back 1 ∷ [])
+    ∷ ParseNode.ArraylikeVT ⇒ (back 1 ∷ [])
+    ∷ ParseNode.PointerVT ⇒ (back 1 ∷ [])
+    ∷ ParseNode.ViewVT ⇒ (back 1 ∷ [])
+    ∷ [])
+    []

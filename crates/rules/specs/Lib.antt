@@ -1,0 +1,11 @@
+pub mod Codes
+pub mod Reading
+pub mod Builder
+pub mod Types
+pub mod Expressions
+pub mod Declarations
+pub mod Trees
+pub mod Columns
+pub mod Ways
+pub mod Demand
+pub mod Stars
