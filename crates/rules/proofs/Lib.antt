@@ -1,1 +1,14 @@
+pub mod Lists
+pub mod Ways
+pub mod Laid
+pub mod Sim
+pub mod Grow
+pub mod Chain
+pub mod Types
+pub mod Expressions
+pub mod Declarations
+pub mod Forward
+pub mod Moves
+pub mod Starts
+pub mod Demand
 pub mod Stars

@@ -1,0 +1,120 @@
+-- The builder's steps: what the columns hold after each is the tree that the trees' builder gives.
+use Prim.Native.Nat.{ℕ, zero, suc, _+_, _-_, _≤_, _<_}
+use native.Mathlib.Omega.{arith}
+use mathlib.Core.Bool.{Bool, true, false}
+use mathlib.Core.Logic.{_⊎_, inl, inr}
+use mathlib.Core.Path.{_≡_, refl, sym, _∙_, ap}
+use mathlib.Core.List.{List, [], _∷_, map}
+use mathlib.Core.Option.{Option, some, none}
+use lib.ListN.{length}
+use lib.Dec.{eqb, leb, ltb}
+use borrow.Author.Tests.{ltb-true, lt-ltb, le-leb}
+use Rattle.rules.specs.Reading.{Rule, ok, no, _>>=_, pure}
+use Rattle.rules.specs.Codes.{pick, Part, back, linked, partsOf}
+use Rattle.rules.specs.Demand.{Kept}
+use Rattle.rules.specs.Trees.{Tree, Forest, node, fnil, fcons}
+use Rattle.rules.specs.Columns.{Nodes, written, append}
+use Rattle.rules.specs.Ways.{links, kindAt, loadAt, shown, place, parts}
+use Rattle.rules.proofs.Ways.{Numbered, Row, numbered, rnil, rcons, root, roots, strip, strips, Stands, All, times, timesAll}
+use Rattle.rules.proofs.Laid.{Claim, nothing, cell, tree, _⋆_, holds, counts, On, turn, appended, kept}
+use Rattle.rules.proofs.Sim.{Sim, Both, Via, _then_}
+
+abbrev pub row : List Numbered → Row
+row [] = rnil
+row (t ∷ ts) = rcons t (row ts)
+
+-- the trees, and the claim besides
+abbrev pub above : List Numbered → Claim → Claim
+above [] F = F
+above (t ∷ ts) F = tree t ⋆ above ts F
+
+-- their roots stand i, i + 1 .. before n
+abbrev pub Placed : ℕ → ℕ → List Numbered → Type 0
+Placed n i [] = Unit {0}
+Placed n i (t ∷ ts) = (root t + i ≡ n) × Placed n (suc i) ts
+
+-- parts i, i + 1 .. back, one for each
+abbrev pub backs : ℕ → List Numbered → List Part
+backs i [] = []
+backs i (t ∷ ts) = back i ∷ backs (suc i) ts
+
+-- the trees ts stand, the last one's root first, at the end of the columns
+pub record At (o : Nodes) (ts : List Numbered) (F : Claim) (s : Nodes) : Type 0 where
+  pub on : On o (above ts F) s
+  pub placed : Placed (s .count) 1 ts
+
+-- what is read is the root of a tree that stands, and that tree
+abbrev pub Yields : (Numbered → Nodes → Type 0) → ℕ → Tree → Nodes → Type 0
+Yields = Via root strip
+
+-- a rule that reads one tree, whatever stands besides
+abbrev pub Follows : Nodes → Rule Nodes ℕ → Rule (Unit {0}) Tree → Type 0
+Follows o m m' = (F : Claim) → Sim o (At o [] F) (Yields (λ t. At o (t ∷ []) F)) m m'
+
+pub under : {o : Nodes} {ts : List Numbered} {F : Claim} {m : Rule Nodes ℕ} {m' : Rule (Unit {0}) Tree} → Follows o m m' → Sim o (At o ts F) (Yields (λ t. At o (t ∷ []) (above ts F))) m m'
+under {ts = ts} {F = F} h = record { run = λ c s k p. h (above ts F) .run c s k (record { on = p .on; placed = tt }) }
+
+pub pure-sim : {o : Nodes} {G : Numbered → Nodes → Type 0} (t : Numbered) → Sim o (G t) (Yields G) (pure (root t)) (pure (strip t))
+pure-sim t = record { run = λ c s k p. (refl, k, (t, refl, refl, p)) }
+
+all-above : (ts : List Numbered) (F : Claim) (s : Nodes) → holds (above ts F) s → All s (row ts) × holds F s
+all-above [] F s h = (tt, h)
+all-above (t ∷ ts) F s h = let (a, b) = all-above ts F s (h .1) in ((h .0, a), b)
+
+counts-above : (ts : List Numbered) (F : Claim) (m : ℕ) → counts (above ts F) m ≡ timesAll (row ts) m + counts F m
+counts-above [] F m = omega arith
+counts-above (t ∷ ts) F m = omega (arith, counts-above ts F m)
+
+unlinked : (i : ℕ) (ts : List Numbered) → links (backs i ts) ≡ false
+unlinked i [] = refl
+unlinked i (t ∷ ts) = unlinked (suc i) ts
+
+places : (n l i : ℕ) (ts : List Numbered) → Placed n i ts → map (place n l) (backs i ts) ≡ roots (row ts)
+places n l i [] p = refl
+places n l i (t ∷ ts) p =
+    let d : n - i ≡ root t = omega arith in
+    rw (le-leb i n (omega arith), d, places n l (suc i) ts (p .1))
+
+further : (n i : ℕ) (ts : List Numbered) → Placed n i ts → Placed (n + 1) (suc i) ts
+further n i [] p = tt
+further n i (t ∷ ts) p = (omega arith, further n (suc i) ts (p .1))
+
+above-all : (ts : List Numbered) (F : Claim) (s : Nodes) → All s (row ts) → holds F s → holds (above ts F) s
+above-all [] F s a h = h
+above-all (t ∷ ts) F s a h = (a .0, above-all ts F s (a .1) h)
+
+module _ {o : Nodes} {P : Nodes → Type 0} {B : Type 0} {Q : ℕ → B → Nodes → Type 0} where
+  -- an append, whose claim is what the tree's builder reads
+  pub append-sim : (k l : ℕ) (b : B) → ((s : Nodes) → P s → s .count < length (s .kinds) → (F : Claim) × On o F (written s (s .count) k l (s .count + 1)) × Q (s .count) b (written s (s .count) k l (s .count + 1))) → Sim o P Q (append k l) (pure b)
+  unfolding append
+  append-sim k l b f = record { run = λ c s h p. go c s h p (ltb (s .count) (length (s .kinds))) refl }
+    where
+      go : (c : ℕ) (s : Nodes) → Kept o s → P s → (t : Bool) → ltb (s .count) (length (s .kinds)) ≡ t → Both o Q (append k l c s .result) (append k l c s .cursor) (append k l c s .state) (ok b) c
+      go c s h p true e = let (F, x, y) = f s p (ltb-true (s .count) (length (s .kinds)) e) in rw e (refl, kept x, y)
+      go c s h p false e = rw e (h, inl refl)
+
+module _ {o : Nodes} {F : Claim} where
+  -- a node whose parts stand before it
+  pub node-sim : {ts : List Numbered} (k l : ℕ) → partsOf k ≡ backs 1 ts → Sim o (At o ts F) (Yields (λ t. At o (t ∷ []) F)) (append k l) (pure (node k l (strips (row ts))))
+  unfolding parts
+  node-sim {ts} k l e =
+      append-sim k l (node k l (strips (row ts))) λ s p r.
+      let d : links (partsOf k) ≡ false = rw e (unlinked 1 ts) in
+      let on = turn {G = above (numbered (s .count) k l (row ts) ∷ []) F} (λ h. let (a, b) = all-above ts F _ (h .1) in ((h .0 .0, rw d (h .0 .1), rw (h .0 .0, h .0 .1, e) (places (s .count) l 1 ts (p .placed)), a), b)) (λ m. omega (arith, counts-above ts F m)) (appended k l r (p .on)) in
+      (_, on, (numbered (s .count) k l (row ts), refl, refl, record { on = on; placed = (refl, tt) }))
+
+  -- a node without parts
+  pub leaf-sim : {ts : List Numbered} (k l : ℕ) → partsOf k ≡ [] → Sim o (At o ts F) (Yields (λ t. At o (t ∷ ts) F)) (append k l) (pure (node k l fnil))
+  unfolding parts
+  leaf-sim {ts} k l e =
+      append-sim k l (node k l fnil) λ s p r.
+      let on = turn {G = above (numbered (s .count) k l rnil ∷ ts) F} (λ h. ((h .0 .0, rw e (h .0 .1), rw (h .0 .0, e), tt), h .1)) (λ m. omega arith) (appended k l r (p .on)) in
+      (_, on, (numbered (s .count) k l rnil, refl, refl, record { on = on; placed = (refl, further (s .count) 1 ts (p .placed)) }))
+
+  -- a node that links to a tree among the others
+  pub link-sim : {ts : List Numbered} (k : ℕ) (u : Numbered) → partsOf k ≡ linked ∷ [] → Sim o (At o ts (tree u ⋆ F)) (Yields (λ t. At o (t ∷ ts) F)) (append k (root u)) (pure (node k 0 (fcons (strip u) fnil)))
+  unfolding parts
+  link-sim {ts} k u e =
+      append-sim k (root u) (node k 0 (fcons (strip u) fnil)) λ s p r.
+      let on = turn {G = above (numbered (s .count) k 0 (rcons u rnil) ∷ ts) F} (λ h. let (a, b) = all-above ts (tree u ⋆ F) _ (h .1) in ((h .0 .0, rw e, rw (h .0 .0, h .0 .1, e), (b .0, tt)), above-all ts F _ a (b .1))) (λ m. omega (arith, counts-above ts F m, counts-above ts (tree u ⋆ F) m)) (appended k (root u) r (p .on)) in
+      (_, on, (numbered (s .count) k 0 (rcons u rnil), refl, refl, record { on = on; placed = (refl, further (s .count) 1 ts (p .placed)) }))
