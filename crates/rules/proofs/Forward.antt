@@ -214,7 +214,7 @@ module _ {n : ℕ} {A B : Type 0} {I : ℕ → Type 0} (row : Row) {f : A → Ru
   -- a loop never runs out, since each round takes a token
   pub loops : ((a : A) (c : ℕ) → I c → Goes n (f a) c (Round I c)) → n ≤ length (row .kinds) → (a : A) (c : ℕ) → I c → Goes n (loop row f a) c (λ _ p. c ≤ p)
   unfolding loop
-  loops h size a c i = repeats h _ c (suc (length (row .kinds))) a c (omega arith) i (λ p g. knows λ b. absurd (omega arith))
+  loops h size a c i = repeats h _ c _ a c (omega arith) i (λ p g. knows λ b. absurd (omega arith))
 
 -- rounds of which so many are allowed, and then a refusal
 pub bounded : {n : ℕ} {A B : Type 0} {f : A → Rule Nodes (Step A B)} {over : Rule Nodes B} → ((a : A) (c : ℕ) → Goes n (f a) c (Round (λ _. Unit {0}) c)) → ((c c₀ : ℕ) → Goes n over c (λ _ p. c₀ ≤ p)) → (rounds : ℕ) (a : A) (c : ℕ) → Goes n (repeat f over rounds a) c (λ _ p. c ≤ p)

@@ -9,7 +9,8 @@ use Rattle.rules.specs.Codes.BinaryOp as BinaryOp
 use Rattle.rules.specs.Codes.UnaryOp as UnaryOp
 use Rattle.rules.specs.Codes.Refusal as Refusal
 use Rattle.rules.specs.Codes.Limit as Limit
-use Rattle.rules.specs.Reading.{Rule, Row, Step, again, done, _>>=_, pure, refuse, here, choose, peek, take, consume, optional, repeat, loop, typeOf}
+use Rattle.rules.specs.Reading.{Rule, Row, _>>=_, pure, refuse, here, choose, peek, take, consume, optional}
+use Rattle.rules.specs.Reading.{Step, again, done, repeat, loop, typeOf}
 use Rattle.rules.specs.Builder.{Builder}
 use Rattle.rules.specs.Types.{type}
 

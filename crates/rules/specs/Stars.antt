@@ -8,7 +8,6 @@ use Rattle.rules.specs.Codes.{pick}
 use Rattle.rules.specs.Codes.BaseToken as T
 use Rattle.rules.specs.Codes.ValueTypeKeyword as ValueTypeKeyword
 use Rattle.rules.specs.Codes.ParseNode as ParseNode
-use Rattle.rules.specs.Codes.DeclarationFlag as DeclarationFlag
 use Rattle.rules.specs.Codes.Limit as Limit
 use Rattle.rules.specs.Reading.{Rule, Row, Outcome, Result, ok, no}
 use Rattle.rules.specs.Types.{type}
@@ -30,9 +29,9 @@ pub data Node : Type 0 where
 pub data Answer : Type 0 where
   answer : Reply → List Node → Answer
 
--- what is read, the kinds before EndOfSource, the cursor, the slots, and the answer
+-- what is read, the kinds before EndOfSource, the cursor, the slots, the reply, and some of the nodes
 pub data Star : Type 0 where
-  star : (Row → Rule Nodes ℕ) → List ℕ → ℕ → ℕ → Answer → Star
+  star : (Row → Rule Nodes ℕ) → List ℕ → ℕ → ℕ → Reply → List Node → Star
 
 abbrev anExpression : Row → Rule Nodes ℕ
 anExpression row = expression columns row Limit.Nesting
@@ -44,19 +43,25 @@ aType row = type columns row Limit.Nesting
 abbrev aStruct : Row → Rule Nodes ℕ
 aStruct row = struct columns row Limit.Nesting 0 0
 
+abbrev one : ℕ
+one = T.NakedDecimal
+
+abbrev name : ℕ
+name = T.Identifier
+
 abbrev pub stars : List Star
 stars =
-    star anExpression (T.NakedDecimal ∷ T.Plus ∷ T.NakedDecimal ∷ []) 0 9 (answer (accepted 4 3 5) [])
-    ∷ star anExpression (T.Identifier ∷ T.Ampersand ∷ T.Identifier ∷ T.Pipe ∷ T.Identifier ∷ []) 0 20 (answer (accepted 12 3 13) [])
-    ∷ star anExpression (T.Identifier ∷ T.ParenLeft ∷ T.ParenRight ∷ []) 0 9 (answer (accepted 3 3 4) [])
-    ∷ star anExpression (T.BracketLeft ∷ T.NakedDecimal ∷ T.Comma ∷ T.BracketRight ∷ []) 0 9 (answer (accepted 4 4 5) [])
-    ∷ star aType (T.Ampersand ∷ T.ValueTypeKeyword ∷ []) 0 9 (answer (accepted 3 2 4) [])
-    ∷ star aType (T.ValueTypeKeyword ∷ []) 0 9 (answer (accepted 0 1 1) [])
-    ∷ star anExpression (T.StringLiteral ∷ T.StringLiteral ∷ []) 0 9 (answer (accepted 1 2 2) [])
-    ∷ star anExpression (T.ParenLeft ∷ T.NakedDecimal ∷ []) 0 9 (answer (refused 15 2 2 3 1) [])
-    ∷ star anExpression (T.NakedDecimal ∷ T.Plus ∷ T.NakedDecimal ∷ []) 0 4 (answer (refused 33 3 3 3 4) [])
-    ∷ star aStruct (T.Struct ∷ T.Identifier ∷ T.Semicolon ∷ []) 1 9 (answer (accepted 5 3 6) (node 4 ParseNode.DeclarationFlags DeclarationFlag.OpaqueStruct ∷ []))
-    ∷ star aStruct (T.Identifier ∷ T.BraceLeft ∷ T.Identifier ∷ T.Colon ∷ T.Identifier ∷ T.BraceRight ∷ []) 0 9 (answer (refused 25 5 5 6 2) [])
+    star anExpression (one ∷ T.Plus ∷ one ∷ []) 0 9 (accepted 4 3 5) []
+    ∷ star anExpression (name ∷ T.Ampersand ∷ name ∷ T.Pipe ∷ name ∷ []) 0 20 (accepted 12 3 13) []
+    ∷ star anExpression (name ∷ T.ParenLeft ∷ T.ParenRight ∷ []) 0 9 (accepted 3 3 4) []
+    ∷ star anExpression (T.BracketLeft ∷ one ∷ T.Comma ∷ T.BracketRight ∷ []) 0 9 (accepted 4 4 5) []
+    ∷ star aType (T.Ampersand ∷ T.ValueTypeKeyword ∷ []) 0 9 (accepted 3 2 4) []
+    ∷ star aType (T.ValueTypeKeyword ∷ []) 0 9 (accepted 0 1 1) []
+    ∷ star anExpression (T.StringLiteral ∷ T.StringLiteral ∷ []) 0 9 (accepted 1 2 2) []
+    ∷ star anExpression (T.ParenLeft ∷ one ∷ []) 0 9 (refused 15 2 2 3 1) []
+    ∷ star anExpression (one ∷ T.Plus ∷ one ∷ []) 0 4 (refused 33 3 3 3 4) []
+    ∷ star aStruct (T.Struct ∷ name ∷ T.Semicolon ∷ []) 1 9 (accepted 5 3 6) (node 4 ParseNode.DeclarationFlags 16 ∷ [])
+    ∷ star aStruct (name ∷ T.BraceLeft ∷ name ∷ T.Colon ∷ name ∷ T.BraceRight ∷ []) 0 9 (refused 25 5 5 6 2) []
     ∷ []
 
 -- the row, where a value type is i32
@@ -78,7 +83,7 @@ standing s (node n kind load) = node n (kindAt s n) (loadAt s n)
 
 -- The proposition of a starred row: the rule gives the reply and the nodes.
 abbrev pub Shown : Star → Type 0
-Shown (star rule ks cursor slots (answer reply ns)) =
+Shown (star rule ks cursor slots reply ns) =
     let p = rule (rowOf ks) cursor (empty slots) in
     answer (replyOf (p .result) (p .cursor) (p .state .count)) (map (standing (p .state)) ns) ≡ answer reply ns
 
