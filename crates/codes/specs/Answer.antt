@@ -1,0 +1,54 @@
+-- The answers of the code as the rules give them.
+use Prim.Native.Nat.{ℕ, _≤_}
+use mathlib.Core.Path.{_≡_}
+use mathlib.Core.List.{List}
+use lib.ListN.{length}
+use Rattle.codes.specs.declared.Parsed.{Parsed}
+use Rattle.codes.specs.declared.Parsed.the-variants.{Node, Refused}
+use Rattle.codes.specs.declared.NodeId.{NodeId}
+use Rattle.codes.specs.declared.TokenId.{TokenId}
+use Rattle.rules.specs.Codes.Limit as Limit
+use Rattle.rules.specs.Reading.{Rule, Result, ok, no, Row}
+use Rattle.rules.specs.Columns.{Nodes}
+
+-- the token and the node with this number
+abbrev pub token : ℕ → TokenId
+token n = record { 0 = n }
+
+abbrev pub nodeId : ℕ → NodeId
+nodeId n = record { 0 = n }
+
+-- "Acceptance gives root node, cursor and node count. A refusal gives number, start, end, cursor and node count": the
+-- answer for a rule's result, the cursor after it and the node count after it.
+abbrev pub parsed : Result ℕ → ℕ → ℕ → Parsed
+parsed (ok root) cursor count = Node (nodeId root) (token cursor) count
+parsed (no number start end) cursor count = Refused number (token start) (token end) (token cursor) count
+
+-- The answer r and the columns ks (kinds) and ls (loads) are what the rule m gives from the cursor c and the nodes s.
+-- `form` makes an answer of a result, a cursor and a node count.
+pub record As {A R : Type 0} (form : Result A → ℕ → ℕ → R) (m : Rule Nodes A) (c : ℕ) (s : Nodes) (r : R)
+    (ks ls : List ℕ) : Type 0 where
+  pub reply : r ≡ form (m c s .result) (m c s .cursor) (m c s .state .count)
+  pub kinds : ks ≡ m c s .state .kinds
+  pub loads : ls ≡ m c s .state .loads
+
+-- the same of a rule that reads a node
+abbrev pub Gives : Rule Nodes ℕ → ℕ → Nodes → Parsed → List ℕ → List ℕ → Type 0
+Gives = As parsed
+
+-- What every reader takes for granted of the row's kinds ks and value types vs, of the node columns, kinds ns and loads
+-- ls, and of its cursor, which may stand just past the last token, and the node count. The entries refuse all else.
+pub record Sized (ks vs ns ls : List ℕ) (cursor count : ℕ) : Type 0 where
+  pub types : length vs ≡ length ks
+  pub tokens : length ks ≤ Limit.Tokens
+  pub at : cursor ≤ length ks
+  pub loads : length ls ≡ length ns
+  pub slots : length ns ≤ Limit.Slots
+  pub used : count ≤ length ns
+
+-- the row and the nodes in these columns
+abbrev pub row : List ℕ → List ℕ → Row
+row ks vs = record { kinds = ks; types = vs }
+
+abbrev pub nodes : List ℕ → List ℕ → ℕ → Nodes
+nodes ks ls k = record { kinds = ks; loads = ls; count = k }
