@@ -18,23 +18,45 @@ token n = record { 0 = n }
 abbrev pub nodeId : ℕ → NodeId
 nodeId n = record { 0 = n }
 
--- "Acceptance gives root node, cursor and node count. A refusal gives number, start, end, cursor and node count": the
--- answer for a rule's result, the cursor after it and the node count after it.
-abbrev pub parsed : Result ℕ → ℕ → ℕ → Parsed
-parsed (ok root) cursor count = Node (nodeId root) (token cursor) count
-parsed (no number start end) cursor count = Refused number (token start) (token end) (token cursor) count
+-- the row and the nodes in these columns
+abbrev pub row : List ℕ → List ℕ → Row
+row ks vs = record { kinds = ks; types = vs }
+
+abbrev pub nodes : List ℕ → List ℕ → ℕ → Nodes
+nodes ks ls k = record { kinds = ks; loads = ls; count = k }
+
+-- How an answer is given: by one variant for what is read, with the cursor and the node count then, and by one that
+-- holds the refusal.
+pub record Form (A R : Type 0) : Type 0 where
+  pub read : A → ℕ → ℕ → R
+  pub refused : Parsed → R
+
+-- "A refusal gives number, start, end, cursor and node count."
+abbrev pub refusal : ℕ → ℕ → ℕ → ℕ → ℕ → Parsed
+refusal number start end cursor count = Refused number (token start) (token end) (token cursor) count
+
+-- "Acceptance gives root node, cursor and node count."
+abbrev pub parsed : Form ℕ Parsed
+parsed = record { read = λ root cursor count. Node (nodeId root) (token cursor) count; refused = λ r. r }
+
+-- the answer for a rule's result, and the cursor and the node count after it
+abbrev pub answer : {A R : Type 0} → Form A R → Result A → ℕ → ℕ → R
+answer F (ok a) cursor count = F .read a cursor count
+answer F (no number start end) cursor count = F .refused (refusal number start end cursor count)
 
 -- The answer r and the columns ks (kinds) and ls (loads) are what the rule m gives from the cursor c and the nodes s.
--- `form` makes an answer of a result, a cursor and a node count.
-pub record As {A R : Type 0} (form : Result A → ℕ → ℕ → R) (m : Rule Nodes A) (c : ℕ) (s : Nodes) (r : R)
-    (ks ls : List ℕ) : Type 0 where
-  pub reply : r ≡ form (m c s .result) (m c s .cursor) (m c s .state .count)
+pub record As {A R : Type 0} (F : Form A R) (m : Rule Nodes A) (c : ℕ) (s : Nodes) (r : R) (ks ls : List ℕ) : Type 0 where
+  pub reply : r ≡ answer F (m c s .result) (m c s .cursor) (m c s .state .count)
   pub kinds : ks ≡ m c s .state .kinds
   pub loads : ls ≡ m c s .state .loads
 
 -- the same of a rule that reads a node
 abbrev pub Gives : Rule Nodes ℕ → ℕ → Nodes → Parsed → List ℕ → List ℕ → Type 0
 Gives = As parsed
+
+-- The same of a reader that appends nothing and reads no value type: whatever these and the columns are.
+pub record Quiet {A R : Type 0} (F : Form A R) (m : Row → Rule Nodes A) (kinds : List ℕ) (c count : ℕ) (r : R) : Type 0 where
+  pub run : (types ks ls : List ℕ) → As F (m (row kinds types)) c (nodes ks ls count) r ks ls
 
 -- What every reader takes for granted of the row's kinds ks and value types vs, of the node columns, kinds ns and loads
 -- ls, and of its cursor, which may stand just past the last token, and the node count. The entries refuse all else.
@@ -45,10 +67,3 @@ pub record Sized (ks vs ns ls : List ℕ) (cursor count : ℕ) : Type 0 where
   pub loads : length ls ≡ length ns
   pub slots : length ns ≤ Limit.Slots
   pub used : count ≤ length ns
-
--- the row and the nodes in these columns
-abbrev pub row : List ℕ → List ℕ → Row
-row ks vs = record { kinds = ks; types = vs }
-
-abbrev pub nodes : List ℕ → List ℕ → ℕ → Nodes
-nodes ks ls k = record { kinds = ks; loads = ls; count = k }

@@ -1,0 +1,38 @@
+use native.Mathlib.Omega.{arith}
+use Rattle.nodes.proofs.Laws.{past-last}
+use Rattle.nodes.proofs.Laws.{end-refused, end-empty, end-patched}
+use borrow.Author.Needs.{needs}
+use Rattle.nodes.proofs.push_end_of_list.Statement.{statement}
+use Rattle.nodes.proofs.push_end_of_list.Tie as tie
+
+returns : tie.Need-returns
+returns c = search (needs, end-refused)
+
+patch-list-item-requires : tie.Need-patch-list-item-requires
+patch-list-item-requires c κs = omega (arith, past-last)
+
+returns-2 : tie.Need-returns-2
+returns-2 c = search (needs, end-empty)
+
+returns-3 : tie.Need-returns-3
+returns-3 c = search (needs, end-patched)
+
+pub push-end-of-list-spec : {M : Type 1} → statement M
+push-end-of-list-spec =
+    tie.close
+    (tie.spec
+    (λ c κs. search needs)
+    (λ c. search needs)
+    (λ c. search needs)
+    (λ c. search needs)
+    (λ c. search needs)
+    returns
+    (λ c. search needs)
+    (λ c. search needs)
+    patch-list-item-requires
+    (λ c. search needs)
+    (λ c. search needs)
+    returns-2
+    (λ c. search needs)
+    (λ c. search needs)
+    returns-3)

@@ -1,0 +1,20 @@
+use mathlib.Core.Path.{sym}
+use lib.ListN.{List·getD-eq-default}
+use borrow.Author.Needs.{needs}
+use Rattle.tokens.proofs.peek.Statement.{statement}
+use Rattle.tokens.proofs.peek.Tie as tie
+
+cast-at : tie.Need-cast-at
+cast-at c = search needs
+
+shared-slice-read-result : tie.Need-shared-slice-read-result
+shared-slice-read-result c = search needs
+
+returns : tie.Need-returns
+returns c = search needs
+
+returns-2 : tie.Need-returns-2
+returns-2 c = sym (List·getD-eq-default (c .before .before .args .kinds .now) 0 (c .if1 .left))
+
+pub peek-spec : {M : Type 1} → statement M
+peek-spec = tie.close (tie.spec cast-at shared-slice-read-result returns returns-2)
