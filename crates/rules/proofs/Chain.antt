@@ -15,6 +15,10 @@ use Rattle.rules.proofs.Laid.{Claim, nothing, cell, tree, _⋆_, holds,
 use Rattle.rules.proofs.Sim.{Sim, Both, Via, _then_}
 use Rattle.rules.proofs.Grow.{At, Yields, above, append-sim}
 
+-- the item n, not yet patched
+abbrev pub unpatched : ℕ → Claim
+unpatched n = cell n ParseNode.UnpatchedListItem 0
+
 -- items with these contents, the last one first, which links to the node p: each stands after its content
 abbrev pub chain : List Numbered → ℕ → Claim
 chain [] p = nothing
@@ -23,7 +27,7 @@ chain (t ∷ ts) p = cell (root t + 1) ParseNode.ListItem p ⋆ (tree t ⋆ chai
 -- the same, the last one not yet patched
 abbrev pub opened : List Numbered → Claim
 opened [] = nothing
-opened (t ∷ ts) = cell (root t + 1) ParseNode.UnpatchedListItem 0 ⋆ (tree t ⋆ chain ts (root t + 1))
+opened (t ∷ ts) = unpatched (root t + 1) ⋆ (tree t ⋆ chain ts (root t + 1))
 
 abbrev pub first : ℕ → List Numbered → ℕ
 first p [] = p
@@ -56,18 +60,29 @@ unfolding chained
 chained-strip [] end = refl
 chained-strip (t ∷ ts) end = chained-strip ts (numbered (root t + 1) ParseNode.ListItem 0 (rcons t (rcons end rnil)))
 
-chained-stands : (s : Nodes) (ts : List Numbered) (end : Numbered) → holds (chain ts (root end)) s → Stands s end → Stands s (chained ts end)
+chained-stands :
+    (s : Nodes) (ts : List Numbered) (end : Numbered) →
+    holds (chain ts (root end)) s → Stands s end → Stands s (chained ts end)
 unfolding chained parts
 chained-stands s [] end h e = e
-chained-stands s (t ∷ ts) end h e = let d : root t + 1 - 1 ≡ root t = omega arith in chained-stands s ts (numbered (root t + 1) ParseNode.ListItem 0 (rcons t (rcons end rnil))) (h .1 .1) (h .0 .0, refl, rw (h .0 .0, h .0 .1, le-leb 1 (root t + 1) (omega arith), d), (h .1 .0, (e, tt)))
+chained-stands s (t ∷ ts) end h e =
+    let d : root t + 1 - 1 ≡ root t = omega arith in
+    chained-stands s ts (numbered (root t + 1) ParseNode.ListItem 0 (rcons t (rcons end rnil))) (h .1 .1)
+    (h .0 .0, refl, rw (h .0 .0, h .0 .1, le-leb 1 (root t + 1) (omega arith), d), (h .1 .0, (e, tt)))
 
-chained-times : (ts : List Numbered) (end : Numbered) (m : ℕ) → times (chained ts end) m ≡ times end m + counts (chain ts (root end)) m
+chained-times :
+    (ts : List Numbered) (end : Numbered) (m : ℕ) →
+    times (chained ts end) m ≡ times end m + counts (chain ts (root end)) m
 unfolding chained
 chained-times [] end m = omega arith
-chained-times (t ∷ ts) end m = omega (arith, chained-times ts (numbered (root t + 1) ParseNode.ListItem 0 (rcons t (rcons end rnil))) m)
+chained-times (t ∷ ts) end m =
+    omega (arith, chained-times ts (numbered (root t + 1) ParseNode.ListItem 0 (rcons t (rcons end rnil))) m)
 
 module _ {o : Nodes} {F : Claim} where
-  extended-sim : (ts : List Numbered) (t : Numbered) → Sim o (On o (cell (root t + 1) ParseNode.UnpatchedListItem 0 ⋆ (tree t ⋆ (opened ts ⋆ F)))) (Lists (λ us. At o [] (opened us ⋆ F))) (extended (ends ts) (root t + 1)) (pure (strip t ∷ contents ts))
+  extended-sim :
+      (ts : List Numbered) (t : Numbered) →
+      Sim o (On o (unpatched (root t + 1) ⋆ (tree t ⋆ (opened ts ⋆ F)))) (Lists (λ us. At o [] (opened us ⋆ F)))
+      (extended (ends ts) (root t + 1)) (pure (strip t ∷ contents ts))
   unfolding extended patch _>>=_
   extended-sim [] t = record {
     run = λ c s k h.
@@ -76,46 +91,94 @@ module _ {o : Nodes} {F : Claim} where
   }
   extended-sim (u ∷ us) t = record {
     run = λ c s k h.
-        let moved = turn {G = cell (root u + 1) ParseNode.UnpatchedListItem 0 ⋆ (cell (root t + 1) ParseNode.UnpatchedListItem 0 ⋆ (tree t ⋆ (tree u ⋆ (chain us (root u + 1) ⋆ F))))} (λ x. (x .1 .1 .0 .0, (x .0, (x .1 .0, (x .1 .1 .0 .1 .0, (x .1 .1 .0 .1 .1, x .1 .1 .1)))))) (λ m. omega arith) h in
-        let on = turn {G = opened (t ∷ u ∷ us) ⋆ F} (λ x. ((x .1 .0, (x .1 .1 .0, (x .0, (x .1 .1 .1 .0, x .1 .1 .1 .1 .0)))), x .1 .1 .1 .1 .1)) (λ m. omega arith) (patched (root u + 1) ParseNode.UnpatchedListItem 0 ParseNode.ListItem (root t + 1) moved) in
+        let moved = turn
+        {G = unpatched (root u + 1) ⋆ (unpatched (root t + 1) ⋆ (tree t ⋆ (tree u ⋆ (chain us (root u + 1) ⋆ F))))}
+        (λ x. (x .1 .1 .0 .0, (x .0, (x .1 .0, (x .1 .1 .0 .1 .0, (x .1 .1 .0 .1 .1, x .1 .1 .1))))))
+        (λ m. omega arith)
+        h in
+        let on = turn
+        {G = opened (t ∷ u ∷ us) ⋆ F}
+        (λ x. ((x .1 .0, (x .1 .1 .0, (x .0, (x .1 .1 .1 .0, x .1 .1 .1 .1 .0)))), x .1 .1 .1 .1 .1))
+        (λ m. omega arith)
+        (patched (root u + 1) ParseNode.UnpatchedListItem 0 ParseNode.ListItem (root t + 1) moved) in
         (refl, kept on, (t ∷ u ∷ us, refl, refl, record { on = on; placed = tt }));
   }
 
   -- an item is added after its content
-  pub item-sim : (ts : List Numbered) (t : Numbered) → Sim o (At o (t ∷ []) (opened ts ⋆ F)) (Lists (λ us. At o [] (opened us ⋆ F))) (pushListItem (ends ts)) (pure (strip t ∷ contents ts))
+  pub item-sim :
+      (ts : List Numbered) (t : Numbered) →
+      Sim o (At o (t ∷ []) (opened ts ⋆ F)) (Lists (λ us. At o [] (opened us ⋆ F)))
+      (pushListItem (ends ts)) (pure (strip t ∷ contents ts))
   unfolding _>>=_ pushListItem
   item-sim ts t =
       _then_ {f' = λ _. pure (strip t ∷ contents ts)}
-      (append-sim {Q = λ p _ s. (p ≡ root t + 1) × On o (cell (root t + 1) ParseNode.UnpatchedListItem 0 ⋆ (tree t ⋆ (opened ts ⋆ F))) s} ParseNode.UnpatchedListItem 0 (tt {0}) λ s p r.
+      (append-sim {Q = λ p _ s. (p ≡ root t + 1) × On o (unpatched (root t + 1) ⋆ (tree t ⋆ (opened ts ⋆ F))) s}
+      ParseNode.UnpatchedListItem 0 (tt {0}) λ s p r.
       let on = appended ParseNode.UnpatchedListItem 0 r (p .on) in
       (_, on, (sym (p .placed .0), rw (p .placed .0) on)))
       (λ a b. record { run = λ c s k q. rw (q .0) (extended-sim ts t .run c s k (q .1)) })
 
-  ended-sim : (ts : List Numbered) (n : ℕ) → Sim o (On o (cell n ParseNode.NoMoreItems 0 ⋆ (opened ts ⋆ F))) (Yields (λ u. At o [] (tree u ⋆ F))) (ended (ends ts) n) (pure (items (contents ts) (node ParseNode.NoMoreItems 0 fnil)))
+  ended-sim :
+      (ts : List Numbered) (n : ℕ) →
+      Sim o (On o (cell n ParseNode.NoMoreItems 0 ⋆ (opened ts ⋆ F))) (Yields (λ u. At o [] (tree u ⋆ F)))
+      (ended (ends ts) n) (pure (items (contents ts) (node ParseNode.NoMoreItems 0 fnil)))
   unfolding ended patch _>>=_ parts
   ended-sim [] n = record {
     run = λ c s k h.
-        let on = turn {G = tree (numbered n ParseNode.NoMoreItems 0 rnil) ⋆ F} (λ x. ((x .0 .0, x .0 .1, rw (x .0 .0), tt), x .1 .1)) (λ m. omega arith) h in
+        let on = turn
+        {G = tree (numbered n ParseNode.NoMoreItems 0 rnil) ⋆ F}
+        (λ x. ((x .0 .0, x .0 .1, rw (x .0 .0), tt), x .1 .1))
+        (λ m. omega arith)
+        h in
         (refl, k, (numbered n ParseNode.NoMoreItems 0 rnil, refl, refl, record { on = on; placed = tt }));
   }
   ended-sim (u ∷ us) n =
       let end = numbered n ParseNode.NoMoreItems 0 rnil in record {
         run = λ c s k h.
-            let moved = turn {G = cell (root u + 1) ParseNode.UnpatchedListItem 0 ⋆ (cell n ParseNode.NoMoreItems 0 ⋆ (tree u ⋆ (chain us (root u + 1) ⋆ F)))} (λ x. (x .1 .0 .0, (x .0, (x .1 .0 .1 .0, (x .1 .0 .1 .1, x .1 .1))))) (λ m. omega arith) h in
-            let on = turn {G = tree (chained (u ∷ us) end) ⋆ F} (λ x. (chained-stands _ (u ∷ us) end (x .0, (x .1 .1 .0, x .1 .1 .1 .0)) (x .1 .0 .0, x .1 .0 .1, rw (x .1 .0 .0), tt), x .1 .1 .1 .1)) (λ m. omega (arith, chained-times (u ∷ us) end m)) (patched (root u + 1) ParseNode.UnpatchedListItem 0 ParseNode.ListItem n moved) in
-            (refl, kept on, (chained (u ∷ us) end, chained-root (u ∷ us) end, chained-strip (u ∷ us) end, record { on = on; placed = tt }));
+            let moved = turn
+            {G = unpatched (root u + 1) ⋆ (cell n ParseNode.NoMoreItems 0 ⋆ (tree u ⋆ (chain us (root u + 1) ⋆ F)))}
+            (λ x. (x .1 .0 .0, (x .0, (x .1 .0 .1 .0, (x .1 .0 .1 .1, x .1 .1)))))
+            (λ m. omega arith)
+            h in
+            let on = turn
+            {G = tree (chained (u ∷ us) end) ⋆ F}
+            (λ x. (
+              chained-stands _ (u ∷ us) end
+                  (x .0, (x .1 .1 .0, x .1 .1 .1 .0))
+                  (x .1 .0 .0, x .1 .0 .1, rw (x .1 .0 .0), tt),
+              x .1 .1 .1 .1,
+            ))
+            (λ m. omega (arith, chained-times (u ∷ us) end m))
+            (patched (root u + 1) ParseNode.UnpatchedListItem 0 ParseNode.ListItem n moved) in (
+              refl,
+              kept on,
+              (
+                chained (u ∷ us) end,
+                chained-root (u ∷ us) end,
+                chained-strip (u ∷ us) end,
+                record { on = on; placed = tt },
+              ),
+            );
       }
 
   -- the list is closed: what is read is its first item, or its end if it has none
-  pub close-sim : (ts : List Numbered) → Sim o (At o [] (opened ts ⋆ F)) (Yields (λ u. At o [] (tree u ⋆ F))) (pushEndOfList (ends ts)) (pure (items (contents ts) (node ParseNode.NoMoreItems 0 fnil)))
+  pub close-sim :
+      (ts : List Numbered) →
+      Sim o (At o [] (opened ts ⋆ F)) (Yields (λ u. At o [] (tree u ⋆ F)))
+      (pushEndOfList (ends ts)) (pure (items (contents ts) (node ParseNode.NoMoreItems 0 fnil)))
   unfolding _>>=_ pushEndOfList
   close-sim ts =
       _then_ {f' = λ _. pure (items (contents ts) (node ParseNode.NoMoreItems 0 fnil))}
-      (append-sim {Q = λ p _ s. On o (cell p ParseNode.NoMoreItems 0 ⋆ (opened ts ⋆ F)) s} ParseNode.NoMoreItems 0 (tt {0}) λ s p r.
+      (append-sim {Q = λ p _ s. On o (cell p ParseNode.NoMoreItems 0 ⋆ (opened ts ⋆ F)) s}
+      ParseNode.NoMoreItems 0 (tt {0}) λ s p r.
       let on = appended ParseNode.NoMoreItems 0 r (p .on) in
       (_, on, on))
       (λ n b. ended-sim ts n)
 
   -- a list begins
-  pub begin-sim : {A B : Type 0} {Q : A → B → Nodes → Type 0} {m : Rule Nodes A} {m' : Rule (Unit {0}) B} {ts : List Numbered} → Sim o (At o [] (opened [] ⋆ above ts F)) Q m m' → Sim o (At o ts F) Q m m'
-  begin-sim h = record { run = λ c s k p. h .run c s k (record { on = turn (λ x. (tt, x)) (λ m. omega arith) (p .on); placed = tt }) }
+  pub begin-sim :
+      {A B : Type 0} {Q : A → B → Nodes → Type 0} {m : Rule Nodes A} {m' : Rule (Unit {0}) B} {ts : List Numbered} →
+      Sim o (At o [] (opened [] ⋆ above ts F)) Q m m' → Sim o (At o ts F) Q m m'
+  begin-sim h = record {
+    run = λ c s k p. h .run c s k (record { on = turn (λ x. (tt, x)) (λ m. omega arith) (p .on); placed = tt });
+  }

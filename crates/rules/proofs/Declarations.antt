@@ -8,21 +8,26 @@ use Rattle.rules.specs.Columns.{Nodes, columns}
 use Rattle.rules.specs.Declarations.{colon, constant, member, memberItem, members, structure, struct, word}
 use Rattle.rules.proofs.Ways.{Numbered, root, strip}
 use Rattle.rules.proofs.Laid.{Claim, tree, _⋆_}
-use Rattle.rules.proofs.Sim.{Sim, Alike, Any, Stepped, _same_, here-sim, consume-sim, optional-sim, refuse-sim, pick-sim, grow, opens, gives, eased, loop-sim}
+use Rattle.rules.proofs.Sim.{Sim, Alike, Any, Stepped, _same_, grow, opens, gives, eased}
+use Rattle.rules.proofs.Sim.{here-sim, consume-sim, optional-sim, refuse-sim, pick-sim, loop-sim}
 use Rattle.rules.proofs.Grow.{At, Yields, Follows, under, node-sim, leaf-sim, link-sim}
 use Rattle.rules.proofs.Chain.{ends, contents, opened, begin-sim, item-sim, close-sim}
 use Rattle.rules.proofs.Types.{type-rule}
 use Rattle.rules.proofs.Expressions.{First, Open, expression-rule}
 
 module _ (o : Nodes) (row : Row) where
-  colon-sim : {P : Nodes → Type 0} (number : ℕ) → Sim o P (Alike Any P) (colon columns row number) (colon trees row number)
+  colon-sim :
+      {P : Nodes → Type 0} (number : ℕ) →
+      Sim o P (Alike Any P) (colon columns row number) (colon trees row number)
   unfolding colon
   colon-sim number =
       here-sim same λ at _.
       optional-sim row _ same λ found _.
       pick-sim found (gives λ s p. (refl, tt, p)) refuse-sim
 
-  pub constant-rule : (unused start flags : ℕ) → Follows o (constant columns row unused start flags) (constant trees row unused start flags)
+  pub constant-rule :
+      (unused start flags : ℕ) →
+      Follows o (constant columns row unused start flags) (constant trees row unused start flags)
   unfolding constant
   constant-rule unused start flags F =
       here-sim same λ name _.
@@ -46,7 +51,10 @@ module _ (o : Nodes) (row : Row) where
       grow _ _ (type-rule o row unused F) λ t.
       node-sim _ name refl
 
-  member-item : {F : Claim} (unused : ℕ) (us : List Numbered) → Sim o (At o [] (opened us ⋆ F)) (Stepped (Open o row F) (Open o row F)) (memberItem columns row unused (ends us)) (memberItem trees row unused (contents us))
+  member-item :
+      {F : Claim} (unused : ℕ) (us : List Numbered) →
+      Sim o (At o [] (opened us ⋆ F)) (Stepped (Open o row F) (Open o row F))
+      (memberItem columns row unused (ends us)) (memberItem trees row unused (contents us))
   unfolding memberItem
   member-item {F} unused us =
       optional-sim row _ same λ closing _.
@@ -56,13 +64,20 @@ module _ (o : Nodes) (row : Row) where
       grow _ _ (item-sim us t) λ vs.
       gives λ s p. (vs, refl, refl, p))
 
-  members-sim : {F : Claim} (unused : ℕ) → Sim o (At o [] F) (First o row F) (members columns row unused) (members trees row unused)
+  members-sim :
+      {F : Claim} (unused : ℕ) →
+      Sim o (At o [] F) (First o row F) (members columns row unused) (members trees row unused)
   unfolding members
   members-sim unused =
       consume-sim row _ same λ _ _.
-      begin-sim (grow _ _ (eased (λ s p. ([], refl, refl, p)) (loop-sim row (opens _ _ (member-item unused)) _ _)) λ us. close-sim us)
+      begin-sim (
+      grow _ _ (eased (λ s p. ([], refl, refl, p)) (loop-sim row (opens _ _ (member-item unused)) _ _)) λ us.
+      close-sim us)
 
-  structure-sim : {F : Claim} (start flags size name : ℕ) (l : Numbered) → Sim o (At o [] (tree l ⋆ F)) (Yields (λ t. At o (t ∷ []) F)) (structure columns row start flags size name (root l)) (structure trees row start flags size name (strip l))
+  structure-sim :
+      {F : Claim} (start flags size name : ℕ) (l : Numbered) →
+      Sim o (At o [] (tree l ⋆ F)) (Yields (λ t. At o (t ∷ []) F))
+      (structure columns row start flags size name (root l)) (structure trees row start flags size name (strip l))
   unfolding structure
   structure-sim start flags size name l =
       grow _ _ (link-sim _ l refl) λ s.
@@ -71,7 +86,9 @@ module _ (o : Nodes) (row : Row) where
       grow _ _ (leaf-sim _ flags refl) λ f.
       node-sim _ start refl
 
-  pub struct-rule : (unused start flags : ℕ) → Follows o (struct columns row unused start flags) (struct trees row unused start flags)
+  pub struct-rule :
+      (unused start flags : ℕ) →
+      Follows o (struct columns row unused start flags) (struct trees row unused start flags)
   unfolding struct
   struct-rule unused start flags F =
       here-sim same λ name _.
@@ -80,7 +97,9 @@ module _ (o : Nodes) (row : Row) where
       grow _ _ (pick-sim semicolon (begin-sim (close-sim [])) (members-sim unused)) λ l.
       structure-sim start _ 0 name l
 
-  pub word-rule : (unused start flags kind : ℕ) → Follows o (word columns row unused start flags kind) (word trees row unused start flags kind)
+  pub word-rule :
+      (unused start flags kind : ℕ) →
+      Follows o (word columns row unused start flags kind) (word trees row unused start flags kind)
   unfolding word
   word-rule unused start flags kind F =
       here-sim same λ name _.

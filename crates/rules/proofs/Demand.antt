@@ -31,16 +31,28 @@ use Rattle.rules.proofs.Starts as Starts
 
 -- the frame of columns in which nothing was appended
 kept-all : (o : Nodes) → Sized o → Kept o o
-kept-all o z = record { grew = omega arith; fits = z .room; kinds = refl; loads = z .even; before = λ m g. (refl, refl); after = λ m g. (refl, refl) }
+kept-all o z = record {
+  grew = omega arith;
+  fits = z .room;
+  kinds = refl;
+  loads = z .even;
+  before = λ m g. (refl, refl);
+  after = λ m g. (refl, refl);
+}
 
 module _ {o : Nodes} {m : Rule Nodes ℕ} {m' : Rule (Unit {0}) Tree} (h : Follows o m m') (z : Sized o) (c : ℕ) where
-  both : Both o (Yields (λ t. At o (t ∷ []) nothing)) (m c o .result) (m c o .cursor) (m c o .state) (m' c tt .result) (m' c tt .cursor)
+  both :
+      Both o (Yields (λ t. At o (t ∷ []) nothing)) (m c o .result) (m c o .cursor) (m c o .state)
+      (m' c tt .result) (m' c tt .cursor)
   both = h nothing .run c o (kept-all o z) (record { on = start o (z .even) (z .room); placed = tt })
 
   accepted : (r : ℕ) → m c o .result ≡ ok r → Accepted o r (m c o) (m' c tt)
   accepted r e = go (m' c tt .result) refl (rw e at both)
     where
-      go : (q : Result Tree) → m' c tt .result ≡ q → Both o (Yields (λ t. At o (t ∷ []) nothing)) (ok r) (m c o .cursor) (m c o .state) q (m' c tt .cursor) → Accepted o r (m c o) (m' c tt)
+      go :
+          (q : Result Tree) → m' c tt .result ≡ q →
+          Both o (Yields (λ t. At o (t ∷ []) nothing)) (ok r) (m c o .cursor) (m c o .state) q (m' c tt .cursor) →
+          Accepted o r (m c o) (m' c tt)
       go (ok t) d b = let (u, x, y, a) = b .2 in record {
         tree = t;
         same = d;
@@ -50,31 +62,59 @@ module _ {o : Nodes} {m : Rule Nodes ℕ} {m' : Rule (Unit {0}) Tree} (h : Follo
       }
       go (no x y v) d b = absurd b
 
-  refused : (n x y : ℕ) → m c o .result ≡ no n x y → n ≢ Refusal.NoSlot → (m' c tt .result ≡ no n x y) × (m' c tt .cursor ≡ m c o .cursor)
+  refused :
+      (n x y : ℕ) → m c o .result ≡ no n x y → n ≢ Refusal.NoSlot →
+      (m' c tt .result ≡ no n x y) × (m' c tt .cursor ≡ m c o .cursor)
   refused n x y e d = elim ((rw e at both) .1) [ inl a ↦ absurd (d a) | inr a ↦ (a .0, sym (a .1)) ]
 
   kept : Kept o (m c o .state)
   kept = go (m c o .result) (m' c tt .result) both
     where
-      go : (r : Result ℕ) (q : Result Tree) → Both o (Yields (λ t. At o (t ∷ []) nothing)) r (m c o .cursor) (m c o .state) q (m' c tt .cursor) → Kept o (m c o .state)
+      go :
+          (r : Result ℕ) (q : Result Tree) →
+          Both o (Yields (λ t. At o (t ∷ []) nothing)) r (m c o .cursor) (m c o .state) q (m' c tt .cursor) →
+          Kept o (m c o .state)
       go (ok a) (ok b) d = d .1
       go (ok a) (no x y v) d = absurd d
       go (no x y v) q d = d .0
 
 -- a row's tokens stand below its length, and below its last place where EndOfSource stands there
 below : (row : Row) → Stop row (length (row .kinds))
-below row = record { within = λ i h. elim (decLe (length (row .kinds)) i) [ Dec.yes d ↦ absurd (h (getD-past (row .kinds) i 0 d)) | Dec.no d ↦ omega arith ] }
+below row = record {
+  within = λ i h. elim (decLe (length (row .kinds)) i) [
+    | Dec.yes d ↦ absurd (h (getD-past (row .kinds) i 0 d))
+    | Dec.no d ↦ omega arith
+  ];
+}
 
 below-last : {row : Row} (z : Closed row) → Stop row (z .last)
-below-last {row} z = record { within = λ i h. let b = below row .within i h in elim (decLe (z .last) i) [ Dec.yes d ↦ let e : i ≡ z .last = omega (arith, z .size) in absurd (h (rw e (z .kind))) | Dec.no d ↦ omega arith ] }
+below-last {row} z = record {
+  within = λ i h.
+      let b = below row .within i h in
+      elim (decLe (z .last) i) [
+        | Dec.yes d ↦ let e : i ≡ z .last = omega (arith, z .size) in absurd (h (rw e (z .kind)))
+        | Dec.no d ↦ omega arith
+      ];
+}
 
-module _ {row : Row} {m : Rule Nodes ℕ} {m' : Rule (Unit {0}) Tree} (follows : (o : Nodes) → Follows o m m') (moves : (n : ℕ) → Stop row n → n ≤ length (row .kinds) → (c : ℕ) → Goes n m c (λ _ c'. c < c')) (starts : (c : ℕ) → kindOf row c ≡ 0 → Refuses m c) where
+module _ {row : Row} {m : Rule Nodes ℕ} {m' : Rule (Unit {0}) Tree}
+    (follows : (o : Nodes) → Follows o m m')
+    (moves : (n : ℕ) → Stop row n → n ≤ length (row .kinds) → (c : ℕ) → Goes n m c (λ _ c'. c < c'))
+    (starts : (c : ℕ) → kindOf row c ≡ 0 → Refuses m c) where
   -- what is left of an outcome that is known
-  left : (n : ℕ) → Stop row n → n ≤ length (row .kinds) → (o : Nodes) (c : ℕ) → Sized o → c ≤ n → (r : Result ℕ) → m c o .result ≡ r → Left n (λ _ c'. c < c') o r (m c o .cursor) (m c o .state)
+  left :
+      (n : ℕ) → Stop row n → n ≤ length (row .kinds) →
+      (o : Nodes) (c : ℕ) → Sized o → c ≤ n → (r : Result ℕ) → m c o .result ≡ r →
+      Left n (λ _ c'. c < c') o r (m c o .cursor) (m c o .state)
   left n stop size o c z b r e = rw (← e) (moves n stop size c .run o (z .room) b)
 
-  ahead : (o : Nodes) (c root : ℕ) → Sized o → m c o .result ≡ ok root → (c < m c o .cursor) × (m c o .cursor ≤ length (row .kinds))
-  ahead o c root z e = elim (decLe c (length (row .kinds))) [ Dec.yes d ↦ let l = left (length (row .kinds)) (below row) (omega arith) o c z d _ e in (l .1, l .0) | Dec.no d ↦ absurd (rw e at (starts c (getD-past (row .kinds) c 0 (omega arith)) .run o)) ]
+  ahead :
+      (o : Nodes) (c root : ℕ) → Sized o → m c o .result ≡ ok root →
+      (c < m c o .cursor) × (m c o .cursor ≤ length (row .kinds))
+  ahead o c root z e = elim (decLe c (length (row .kinds))) [
+    | Dec.yes d ↦ let l = left (length (row .kinds)) (below row) (omega arith) o c z d _ e in (l .1, l .0)
+    | Dec.no d ↦ absurd (rw e at (starts c (getD-past (row .kinds) c 0 (omega arith)) .run o))
+  ]
 
   pub demand : Demand row m m'
   demand = record {
@@ -82,26 +122,54 @@ module _ {row : Row} {m : Rule Nodes ℕ} {m' : Rule (Unit {0}) Tree} (follows :
     refused = λ o c n x y z e d. refused (follows o) z c n x y e d;
     kept = λ o c z. kept (follows o) z c;
     ahead = ahead;
-    before-end = λ o c r z d b e. let l = left (d .last) (below-last d) (omega (arith, d .size)) o c z (omega (arith, d .size)) _ e in omega (arith, d .size, l .0);
-    at-end = λ o c n x y z d b e. let l = left (d .last) (below-last d) (omega (arith, d .size)) o c z (omega (arith, d .size)) _ e in omega (arith, d .size, l .0);
-    numbered = λ o c n x y z e. elim (decLe c (length (row .kinds))) [ Dec.yes d ↦ eqb-false n 0 (left (length (row .kinds)) (below row) (omega arith) o c z d _ e .1) | Dec.no d ↦ eqb-false n 0 (rw e at (starts c (getD-past (row .kinds) c 0 (omega arith)) .run o)) ];
+    before-end = λ o c r z d b e.
+        let l = left (d .last) (below-last d) (omega (arith, d .size)) o c z (omega (arith, d .size)) _ e in
+        omega (arith, d .size, l .0);
+    at-end = λ o c n x y z d b e.
+        let l = left (d .last) (below-last d) (omega (arith, d .size)) o c z (omega (arith, d .size)) _ e in
+        omega (arith, d .size, l .0);
+    numbered = λ o c n x y z e. elim (decLe c (length (row .kinds))) [
+      | Dec.yes d ↦ eqb-false n 0 (left (length (row .kinds)) (below row) (omega arith) o c z d _ e .1)
+      | Dec.no d ↦ eqb-false n 0 (rw e at (starts c (getD-past (row .kinds) c 0 (omega arith)) .run o))
+    ];
   }
 
 module _ (row : Row) (unused : ℕ) where
   pub types : Demand row (type columns row unused) (type trees row unused)
-  types = demand (λ o. type-rule o row unused) (λ _ stop size. type-moves stop size unused) (λ _ e. Starts.types row e unused)
+  types = demand
+      (λ o. type-rule o row unused)
+      (λ _ stop size. type-moves stop size unused)
+      (λ _ e. Starts.types row e unused)
 
   pub expressions : Demand row (expression columns row unused) (expression trees row unused)
-  expressions = demand (λ o. expression-rule o row unused) (λ _ stop size. expression-moves stop size unused) (λ _ e. Starts.expressions row e unused)
+  expressions = demand
+      (λ o. expression-rule o row unused)
+      (λ _ stop size. expression-moves stop size unused)
+      (λ _ e. Starts.expressions row e unused)
 
-  pub constants : (start flags : ℕ) → Demand row (constant columns row unused start flags) (constant trees row unused start flags)
-  constants start flags = demand (λ o. constant-rule o row unused start flags) (λ _ stop size. constant-moves stop size unused start flags) (λ _ e. Starts.constants row e unused start flags)
+  pub constants :
+      (start flags : ℕ) →
+      Demand row (constant columns row unused start flags) (constant trees row unused start flags)
+  constants start flags = demand
+      (λ o. constant-rule o row unused start flags)
+      (λ _ stop size. constant-moves stop size unused start flags)
+      (λ _ e. Starts.constants row e unused start flags)
 
-  pub structs : (start flags : ℕ) → Demand row (struct columns row unused start flags) (struct trees row unused start flags)
-  structs start flags = demand (λ o. struct-rule o row unused start flags) (λ _ stop size. struct-moves stop size unused start flags) (λ _ e. Starts.structs row e unused start flags)
+  pub structs :
+      (start flags : ℕ) →
+      Demand row (struct columns row unused start flags) (struct trees row unused start flags)
+  structs start flags = demand
+      (λ o. struct-rule o row unused start flags)
+      (λ _ stop size. struct-moves stop size unused start flags)
+      (λ _ e. Starts.structs row e unused start flags)
 
-  pub words : (start flags kind : ℕ) → Demand row (word columns row unused start flags kind) (word trees row unused start flags kind)
-  words start flags kind = demand (λ o. word-rule o row unused start flags kind) (λ _ stop size. word-moves stop size unused start flags kind) (λ _ e. Starts.words row e unused start flags kind)
+  pub words :
+      (start flags kind : ℕ) →
+      Demand row (word columns row unused start flags kind) (word trees row unused start flags kind)
+  words start flags kind = demand
+      (λ o. word-rule o row unused start flags kind)
+      (λ _ stop size. word-moves stop size unused start flags kind)
+      (λ _ e. Starts.words row e unused start flags kind)
 
 pub unique : Unique
 unique s n t u h g = reads-one t s n u h g

@@ -5,13 +5,19 @@ use mathlib.Core.List.{List, [], _∷_}
 use mathlib.Core.Option.{Option}
 use lib.Dec.{eqb, ltb}
 use Rattle.rules.specs.Codes.Limit as Limit
-use Rattle.rules.specs.Reading.{Rule, Row}
+use Rattle.rules.specs.Reading.{Rule, Row, Step}
 use Rattle.rules.specs.Trees.{Tree, trees}
 use Rattle.rules.specs.Columns.{Nodes, Ends, columns}
-use Rattle.rules.specs.Expressions.{binary, joined, listItem, commaList, exceeded, ampersand, ampersands, deref, string, strings, typedInteger, element, member, step, steps, reference, advanced, pointer, call, field, structural, named, builtin, elements, parenthesized, primary, prefixed, lengthOf, sizeOf, unary, coerced, singular, also, last, factor, product, bit, bitwise, term, sum, expression}
+use Rattle.rules.specs.Expressions.{binary, joined, listItem, commaList, exceeded, ampersand, ampersands, deref}
+use Rattle.rules.specs.Expressions.{string, strings, typedInteger, element, member, step, steps, reference}
+use Rattle.rules.specs.Expressions.{advanced, pointer, call, field, structural, named, builtin, elements}
+use Rattle.rules.specs.Expressions.{parenthesized, primary, prefixed, lengthOf, sizeOf, unary, coerced, singular}
+use Rattle.rules.specs.Expressions.{also, last, factor, product, bit, bitwise, term, sum, expression}
 use Rattle.rules.proofs.Ways.{Numbered, root, strip}
 use Rattle.rules.proofs.Laid.{Claim, tree, _⋆_}
-use Rattle.rules.proofs.Sim.{Sim, Alike, Any, Via, Stepped, alike, other, _or_, _same_, here-sim, peek-sim, take-sim, consume-sim, optional-sim, refuse-sim, pick-sim, choose-sim, grow, opens, gives, eased, repeat-sim, loop-sim, quiet-loop}
+use Rattle.rules.proofs.Sim.{Sim, Alike, Any, Via, Stepped, alike, other, _or_, _same_, grow, opens, gives}
+use Rattle.rules.proofs.Sim.{here-sim, peek-sim, take-sim, consume-sim, optional-sim, refuse-sim, pick-sim}
+use Rattle.rules.proofs.Sim.{choose-sim, eased, repeat-sim, loop-sim, quiet-loop}
 use Rattle.rules.proofs.Grow.{At, Yields, Follows, under, pure-sim, node-sim, leaf-sim, link-sim}
 use Rattle.rules.proofs.Chain.{Lists, ends, contents, opened, begin-sim, item-sim, close-sim}
 use Rattle.rules.proofs.Types.{type-rule}
@@ -29,14 +35,30 @@ module _ (o : Nodes) (row : Row) where
   abbrev pub Open : Claim → Option Ends → List Tree → Nodes → Type 0
   Open F = Lists (λ us. At o [] (opened us ⋆ F))
 
-  binary-sim : {F : Claim} (at op : ℕ) (l r : Numbered) → Sim o (At o (r ∷ []) (tree l ⋆ F)) (One F) (binary columns row at op (root l) (root r)) (binary trees row at op (strip l) (strip r))
+  -- a round of a loop over an open list
+  abbrev ListRound :
+      Claim → List Numbered → (Option Ends → Rule Nodes (Step (Option Ends) (Option Ends))) →
+      (List Tree → Rule (Unit {0}) (Step (List Tree) (List Tree))) → Type 0
+  ListRound F us f f' =
+      Sim o (At o [] (opened us ⋆ F)) (Stepped (Open F) (Open F)) (f (ends us)) (f' (contents us))
+
+  -- a round of a loop over a tree at the end of the columns
+  abbrev TreeRound : Claim → Numbered → (ℕ → Rule Nodes (Step ℕ ℕ)) → (Tree → Rule (Unit {0}) (Step Tree Tree)) → Type 0
+  TreeRound F x f f' = Sim o (At o (x ∷ []) F) (Stepped (One F) (One F)) (f (root x)) (f' (strip x))
+
+  binary-sim :
+      {F : Claim} (at op : ℕ) (l r : Numbered) →
+      Sim o (At o (r ∷ []) (tree l ⋆ F)) (One F)
+      (binary columns row at op (root l) (root r)) (binary trees row at op (strip l) (strip r))
   unfolding binary
   binary-sim at op l r =
       grow _ _ (link-sim _ l refl) λ i.
       grow _ _ (leaf-sim _ op refl) λ p.
       node-sim _ at refl
 
-  joined-sim : {F : Claim} {m : Rule Nodes ℕ} {m' : Rule (Unit {0}) Tree} → Follows o m m' → (op : ℕ) (l : Numbered) → Sim o (At o (l ∷ []) F) (One F) (joined columns row m op (root l)) (joined trees row m' op (strip l))
+  joined-sim :
+      {F : Claim} {m : Rule Nodes ℕ} {m' : Rule (Unit {0}) Tree} → Follows o m m' → (op : ℕ) (l : Numbered) →
+      Sim o (At o (l ∷ []) F) (One F) (joined columns row m op (root l)) (joined trees row m' op (strip l))
   unfolding joined
   joined-sim operand op l =
       here-sim same λ at _.
@@ -46,13 +68,22 @@ module _ (o : Nodes) (row : Row) where
 
   -- an open list and the number of its items; a list that is closed, and that
   abbrev Counted : Claim → Option Ends × ℕ → List Tree × ℕ → Nodes → Type 0
-  Counted F = Via {I = List Numbered × ℕ} (λ p. (ends (p .0), p .1)) (λ p. (contents (p .0), p .1)) (λ p. At o [] (opened (p .0) ⋆ F))
+  Counted F = Via {I = List Numbered × ℕ}
+      (λ p. (ends (p .0), p .1))
+      (λ p. (contents (p .0), p .1))
+      (λ p. At o [] (opened (p .0) ⋆ F))
 
   abbrev Listed : Claim → ℕ × ℕ → Tree × ℕ → Nodes → Type 0
-  Listed F = Via {I = Numbered × ℕ} (λ p. (root (p .0), p .1)) (λ p. (strip (p .0), p .1)) (λ p. At o [] (tree (p .0) ⋆ F))
+  Listed F = Via {I = Numbered × ℕ}
+      (λ p. (root (p .0), p .1))
+      (λ p. (strip (p .0), p .1))
+      (λ p. At o [] (tree (p .0) ⋆ F))
 
   module _ {m : Rule Nodes ℕ} {m' : Rule (Unit {0}) Tree} (one : Follows o m m') (closing : ℕ) {F : Claim} where
-    item-list : (us : List Numbered) (j : ℕ) → Sim o (At o [] (opened us ⋆ F)) (Stepped (Counted F) (Counted F)) (listItem columns row closing m (ends us, j)) (listItem trees row closing m' (contents us, j))
+    item-list :
+        (us : List Numbered) (j : ℕ) →
+        Sim o (At o [] (opened us ⋆ F)) (Stepped (Counted F) (Counted F))
+        (listItem columns row closing m (ends us, j)) (listItem trees row closing m' (contents us, j))
     unfolding listItem
     item-list us j =
         optional-sim row _ same λ empty _.
@@ -67,15 +98,21 @@ module _ (o : Nodes) (row : Row) where
     comma-list : Sim o (At o [] F) (Listed F) (commaList columns row closing m) (commaList trees row closing m')
     unfolding commaList
     comma-list = begin-sim (
-        grow _ _ (eased (λ s p. (([], 0), refl, refl, p)) (loop-sim row (opens _ _ (λ p. item-list (p .0) (p .1))) _ _)) λ p.
+        grow _ _ (
+        eased (λ s p. (([], 0), refl, refl, p)) (loop-sim row (opens _ _ (λ p. item-list (p .0) (p .1))) _ _)) λ p.
         grow _ _ (close-sim (p .0)) λ u.
         gives λ s q. ((u, p .1), refl, refl, q))
 
-  exceeded-sim : {A B : Type 0} {P : Nodes → Type 0} {Q : A → B → Nodes → Type 0} (start : ℕ) → Sim o P Q (exceeded columns row start) (exceeded trees row start)
+  exceeded-sim :
+      {A B : Type 0} {P : Nodes → Type 0} {Q : A → B → Nodes → Type 0} (start : ℕ) →
+      Sim o P Q (exceeded columns row start) (exceeded trees row start)
   unfolding exceeded
   exceeded-sim start = here-sim same λ end _. refuse-sim
 
-  ampersand-sim : {P : Nodes → Type 0} (start depth : ℕ) → Sim o P (Stepped (Alike Any P) (Alike Any P)) (ampersand columns row start depth) (ampersand trees row start depth)
+  ampersand-sim :
+      {P : Nodes → Type 0} (start depth : ℕ) →
+      Sim o P (Stepped (Alike Any P) (Alike Any P))
+      (ampersand columns row start depth) (ampersand trees row start depth)
   unfolding ampersand
   ampersand-sim start depth =
       optional-sim row _ same λ more _.
@@ -83,11 +120,16 @@ module _ (o : Nodes) (row : Row) where
       pick-sim (ltb Limit.AddressDepth (depth + 1)) (exceeded-sim start) (gives λ s p. (refl, tt, p))) (
       gives λ s p. (refl, tt, p))
 
-  ampersands-sim : {P : Nodes → Type 0} (start : ℕ) → Sim o P (Alike Any P) (ampersands columns row start) (ampersands trees row start)
+  ampersands-sim :
+      {P : Nodes → Type 0} (start : ℕ) →
+      Sim o P (Alike Any P) (ampersands columns row start) (ampersands trees row start)
   unfolding ampersands
   ampersands-sim start = quiet-loop row (ampersand-sim start) 1
 
-  deref-sim : {F : Claim} {l : Rule Nodes ℕ} {l' : Rule (Unit {0}) Tree} → Sim o (At o [] F) (First F) l l' → (start depth name : ℕ) → Sim o (At o [] F) (One F) (deref columns row l start depth name) (deref trees row l' start depth name)
+  deref-sim :
+      {F : Claim} {l : Rule Nodes ℕ} {l' : Rule (Unit {0}) Tree} → Sim o (At o [] F) (First F) l l' →
+      (start depth name : ℕ) →
+      Sim o (At o [] F) (One F) (deref columns row l start depth name) (deref trees row l' start depth name)
   unfolding deref
   deref-sim steps start depth name =
       grow _ _ steps λ u.
@@ -96,7 +138,10 @@ module _ (o : Nodes) (row : Row) where
       grow _ _ (leaf-sim _ depth refl) λ d.
       node-sim _ start refl
 
-  string-sim : {P : Nodes → Type 0} (u : Unit {0}) → Sim o P (Stepped (Alike {A = Unit {0}} Any P) (Alike {A = ℕ} Any P)) (string columns row u) (string trees row u)
+  string-sim :
+      {P : Nodes → Type 0} (u : Unit {0}) →
+      Sim o P (Stepped (Alike {A = Unit {0}} Any P) (Alike {A = ℕ} Any P))
+      (string columns row u) (string trees row u)
   unfolding string
   string-sim u =
       here-sim same λ end _.
@@ -120,7 +165,7 @@ module _ (o : Nodes) (row : Row) where
       node-sim _ at refl
 
   module _ {e : Rule Nodes ℕ} {e' : Rule (Unit {0}) Tree} (expr : Follows o e e') where
-    element-sim : {F : Claim} (us : List Numbered) → Sim o (At o [] (opened us ⋆ F)) (Stepped (Open F) (Open F)) (element columns row e (ends us)) (element trees row e' (contents us))
+    element-sim : {F : Claim} (us : List Numbered) → ListRound F us (element columns row e) (element trees row e')
     unfolding element
     element-sim {F} us =
         grow _ _ (expr (opened us ⋆ F)) λ x.
@@ -129,7 +174,7 @@ module _ (o : Nodes) (row : Row) where
         grow _ _ (item-sim us t) λ vs.
         gives λ s p. (vs, refl, refl, p)
 
-    member-sim : {F : Claim} (us : List Numbered) → Sim o (At o [] (opened us ⋆ F)) (Stepped (Open F) (Open F)) (member columns row e (ends us)) (member trees row e' (contents us))
+    member-sim : {F : Claim} (us : List Numbered) → ListRound F us (member columns row e) (member trees row e')
     unfolding member
     member-sim us =
         here-sim same λ at _.
@@ -138,7 +183,7 @@ module _ (o : Nodes) (row : Row) where
         grow _ _ (item-sim us t) λ vs.
         gives λ s p. (vs, refl, refl, p)
 
-    step-sim : {F : Claim} (us : List Numbered) → Sim o (At o [] (opened us ⋆ F)) (Stepped (Open F) (Open F)) (step columns row e (ends us)) (step trees row e' (contents us))
+    step-sim : {F : Claim} (us : List Numbered) → ListRound F us (step columns row e) (step trees row e')
     unfolding step
     step-sim us =
         optional-sim row _ same λ b _.
@@ -150,7 +195,11 @@ module _ (o : Nodes) (row : Row) where
     unfolding steps
     steps-sim =
         here-sim same λ start _.
-        begin-sim (grow _ _ (eased (λ s p. ([], refl, refl, p)) (repeat-sim (opens _ _ step-sim) (λ _ _. exceeded-sim start) Limit.ReferenceDepth _ _)) λ us. close-sim us)
+        begin-sim (
+        grow _ _ (
+        eased (λ s p. ([], refl, refl, p)) (
+        repeat-sim (opens _ _ step-sim) (λ _ _. exceeded-sim start) Limit.ReferenceDepth _ _)) λ us.
+        close-sim us)
 
     reference-sim : Follows o (reference columns row e) (reference trees row e')
     unfolding reference
@@ -161,7 +210,9 @@ module _ (o : Nodes) (row : Row) where
         consume-sim row _ same λ _ _.
         deref-sim steps-sim start 0 name
 
-    advanced-sim : {F : Claim} (x : Numbered) → Sim o (At o (x ∷ []) F) (One F) (advanced columns row e (root x)) (advanced trees row e' (strip x))
+    advanced-sim :
+        {F : Claim} (x : Numbered) →
+        Sim o (At o (x ∷ []) F) (One F) (advanced columns row e (root x)) (advanced trees row e' (strip x))
     unfolding advanced
     advanced-sim x =
         here-sim same λ at _.
@@ -283,7 +334,7 @@ module _ (o : Nodes) (row : Row) where
           prefixed-sim _ F or
           other (primary-sim F))
 
-      coerced-sim : {F : Claim} (x : Numbered) → Sim o (At o (x ∷ []) F) (Stepped (One F) (One F)) (coerced columns row e y (root x)) (coerced trees row e' y' (strip x))
+      coerced-sim : {F : Claim} (x : Numbered) → TreeRound F x (coerced columns row e y) (coerced trees row e' y')
       unfolding coerced
       coerced-sim x =
           optional-sim row _ same λ a _.
@@ -304,16 +355,17 @@ module _ (o : Nodes) (row : Row) where
           grow _ _ (pick-sim cast (node-sim _ at refl) (pure-sim x)) λ c.
           eased (λ s p. (c, refl, refl, p)) (loop-sim row (opens _ _ coerced-sim) _ _)
 
-      module _ {m : Rule Nodes ℕ} {m' : Rule (Unit {0}) Tree} (operand : Follows o m m') (op : ℕ) {F : Claim} (x : Numbered) where
-        also-sim : Sim o (At o (x ∷ []) F) (Stepped (One F) (One F)) (also columns row e y m op (root x)) (also trees row e' y' m' op (strip x))
+      module _ {m : Rule Nodes ℕ} {m' : Rule (Unit {0}) Tree} (operand : Follows o m m') (op : ℕ)
+          {F : Claim} (x : Numbered) where
+        also-sim : TreeRound F x (also columns row e y m op) (also trees row e' y' m' op)
         unfolding also
         also-sim = grow _ _ (joined-sim operand op x) λ b. gives λ s p. (b, refl, refl, p)
 
-        last-sim : Sim o (At o (x ∷ []) F) (Stepped (One F) (One F)) (last columns row e y m op (root x)) (last trees row e' y' m' op (strip x))
+        last-sim : TreeRound F x (last columns row e y m op) (last trees row e' y' m' op)
         unfolding last
         last-sim = grow _ _ (joined-sim operand op x) λ b. gives λ s p. (b, refl, refl, p)
 
-      factor-sim : {F : Claim} (x : Numbered) → Sim o (At o (x ∷ []) F) (Stepped (One F) (One F)) (factor columns row e y (root x)) (factor trees row e' y' (strip x))
+      factor-sim : {F : Claim} (x : Numbered) → TreeRound F x (factor columns row e y) (factor trees row e' y')
       unfolding factor
       factor-sim x =
           peek-sim row same λ k _.
@@ -328,20 +380,25 @@ module _ (o : Nodes) (row : Row) where
           grow _ _ (singular-sim F) λ x.
           eased (λ s p. (x, refl, refl, p)) (loop-sim row (opens _ _ factor-sim) _ _)
 
-      bit-sim : {F : Claim} (token op : ℕ) (x : Numbered) → Sim o (At o (x ∷ []) F) (Stepped (One F) (One F)) (bit columns row e y token op (root x)) (bit trees row e' y' token op (strip x))
+      bit-sim :
+          {F : Claim} (token op : ℕ) (x : Numbered) →
+          TreeRound F x (bit columns row e y token op) (bit trees row e' y' token op)
       unfolding bit
       bit-sim token op x =
           grow _ _ (joined-sim unary-sim op x) λ b.
           peek-sim row same λ k _.
           pick-sim (eqb k token) (gives λ s p. (b, refl, refl, p)) (gives λ s p. (b, refl, refl, p))
 
-      bitwise-sim : {F : Claim} (token op : ℕ) (x : Numbered) → Sim o (At o (x ∷ []) F) (Stepped (One F) (One F)) (bitwise columns row e y token op (root x)) (bitwise trees row e' y' token op (strip x))
+      bitwise-sim :
+          {F : Claim} (token op : ℕ) (x : Numbered) →
+          TreeRound F x (bitwise columns row e y token op) (bitwise trees row e' y' token op)
       unfolding bitwise
       bitwise-sim {F} token op x =
-          grow _ _ (eased (λ s p. (x, refl, refl, p)) (loop-sim {R = One F} row (opens _ _ (bit-sim token op)) _ _)) λ b.
+          grow _ _ (
+          eased (λ s p. (x, refl, refl, p)) (loop-sim {R = One F} row (opens _ _ (bit-sim token op)) _ _)) λ b.
           gives λ s p. (b, refl, refl, p)
 
-      term-sim : {F : Claim} (x : Numbered) → Sim o (At o (x ∷ []) F) (Stepped (One F) (One F)) (term columns row e y (root x)) (term trees row e' y' (strip x))
+      term-sim : {F : Claim} (x : Numbered) → TreeRound F x (term columns row e y) (term trees row e' y')
       unfolding term
       term-sim x =
           peek-sim row same λ k _.

@@ -11,7 +11,9 @@ use lib.ListN.{length, getD, length-set}
 use lib.Dec.{eqb, ltb}
 use borrow.Author.Tests.{ltb-true, eqb-true, eqb-false}
 use Rattle.rules.specs.Codes.{pick, refusalOf}
-use Rattle.rules.specs.Reading.{Rule, Result, ok, no, next, _>>=_, pure, refuse, here, choose, Row, kindOf, peek, take, consume, optional, Step, again, done, onward, repeat, loop}
+use Rattle.rules.specs.Reading.{Rule, Result, ok, no, next, _>>=_, pure, refuse, here}
+use Rattle.rules.specs.Reading.{Row, kindOf, peek, take, consume, optional, choose}
+use Rattle.rules.specs.Reading.{Step, again, done, onward, repeat, loop}
 use Rattle.rules.specs.Columns.{Nodes, Ends, append, patch, extended, ended, pushListItem, pushEndOfList}
 
 infixr 20 _then_
@@ -46,21 +48,42 @@ same : (s : Nodes) → s .count ≤ length (s .kinds) → Grown s s
 same s h = record { grew = omega arith; fits = h; kinds = refl; loads = refl }
 
 module _ {n : ℕ} {A B : Type 0} {Q : A → ℕ → Type 0} {R : B → ℕ → Type 0} {f : A → Rule Nodes B} where
-  then-left : ((a : A) (c : ℕ) → Q a c → Goes n (f a) c R) → (s : Nodes) (r : Result A) (c : ℕ) (t : Nodes) → Left n Q s r c t → Left n R s (next r c t f .result) (next r c t f .cursor) (next r c t f .state)
-  then-left g s (ok a) c t h = go (f a c t .result) (f a c t .cursor) (f a c t .state) (g a c (h .1) .run t (h .2 .fits) (h .0))
+  then-left :
+      ((a : A) (c : ℕ) → Q a c → Goes n (f a) c R) →
+      (s : Nodes) (r : Result A) (c : ℕ) (t : Nodes) → Left n Q s r c t →
+      Left n R s (next r c t f .result) (next r c t f .cursor) (next r c t f .state)
+  then-left g s (ok a) c t h =
+      go (f a c t .result) (f a c t .cursor) (f a c t .state) (g a c (h .1) .run t (h .2 .fits) (h .0))
     where
       go : (r : Result B) (c : ℕ) (u : Nodes) → Left n R t r c u → Left n R s r c u
-      go (ok b) c u l = (l .0, l .1, record { grew = omega (arith, h .2 .grew, l .2 .grew); fits = l .2 .fits; kinds = l .2 .kinds ∙ h .2 .kinds; loads = l .2 .loads ∙ h .2 .loads })
+      go (ok b) c u l = (
+        l .0,
+        l .1,
+        record {
+          grew = omega (arith, h .2 .grew, l .2 .grew);
+          fits = l .2 .fits;
+          kinds = l .2 .kinds ∙ h .2 .kinds;
+          loads = l .2 .loads ∙ h .2 .loads;
+        },
+      )
       go (no x y z) c u l = l
   then-left g s (no x y z) c t h = h
 
-  pub _then_ : {m : Rule Nodes A} {c : ℕ} → Goes n m c Q → ((a : A) (c' : ℕ) → Q a c' → Goes n (f a) c' R) → Goes n (m >>= f) c R
+  pub _then_ :
+      {m : Rule Nodes A} {c : ℕ} →
+      Goes n m c Q → ((a : A) (c' : ℕ) → Q a c' → Goes n (f a) c' R) → Goes n (m >>= f) c R
   unfolding _>>=_
-  _then_ {m} {c} h g = record { run = λ s e b. then-left g s (m c s .result) (m c s .cursor) (m c s .state) (h .run s e b) }
+  _then_ {m} {c} h g = record {
+    run = λ s e b. then-left g s (m c s .result) (m c s .cursor) (m c s .state) (h .run s e b);
+  }
 
 -- what holds then may be said in other words
-pub eased : {n : ℕ} {A : Type 0} {Q R : A → ℕ → Type 0} {m : Rule Nodes A} {c : ℕ} → ((a : A) (c' : ℕ) → Q a c' → R a c') → Goes n m c Q → Goes n m c R
-eased {n = n} {Q = Q} {R = R} {m = m} {c = c} f h = record { run = λ s e b. go s (m c s .result) (m c s .cursor) (m c s .state) (h .run s e b) }
+pub eased :
+    {n : ℕ} {A : Type 0} {Q R : A → ℕ → Type 0} {m : Rule Nodes A} {c : ℕ} →
+    ((a : A) (c' : ℕ) → Q a c' → R a c') → Goes n m c Q → Goes n m c R
+eased {n = n} {Q = Q} {R = R} {m = m} {c = c} f h = record {
+  run = λ s e b. go s (m c s .result) (m c s .cursor) (m c s .state) (h .run s e b);
+}
   where
     go : (s : Nodes) (r : Result _) (c : ℕ) (t : Nodes) → Left n Q s r c t → Left n R s r c t
     go s (ok a) c t l = (l .0, f a c (l .1), l .2)
@@ -91,19 +114,45 @@ module _ {n c : ℕ} where
   unfolding append
   appends k l = record { run = λ s e b. go s e b (ltb (s .count) (length (s .kinds))) refl }
     where
-      go : (s : Nodes) → s .count ≤ length (s .kinds) → c ≤ n → (t : Bool) → ltb (s .count) (length (s .kinds)) ≡ t → Left {A = ℕ} n (λ _ c'. c' ≡ c) s (append k l c s .result) (append k l c s .cursor) (append k l c s .state)
-      go s e b true d = let z = ltb-true (s .count) (length (s .kinds)) d in rw d (b, refl, record { grew = omega arith; fits = simp length-set (omega arith); kinds = simp length-set; loads = simp length-set })
+      go :
+          (s : Nodes) → s .count ≤ length (s .kinds) → c ≤ n →
+          (t : Bool) → ltb (s .count) (length (s .kinds)) ≡ t →
+          Left {A = ℕ} n (λ _ c'. c' ≡ c) s (append k l c s .result) (append k l c s .cursor) (append k l c s .state)
+      go s e b true d =
+          let z = ltb-true (s .count) (length (s .kinds)) d in
+          rw d (
+            b,
+            refl,
+            record {
+              grew = omega arith;
+              fits = simp length-set (omega arith);
+              kinds = simp length-set;
+              loads = simp length-set;
+            },
+          )
       go s e b false d = rw d (omega arith, refl)
 
   extends : (l : Option Ends) (p : ℕ) → Goes n (extended l p) c (λ _ c'. c' ≡ c)
   unfolding extended patch _>>=_
   extends none p = record { run = λ s e b. (b, refl, same s e) }
-  extends (some l) p = record { run = λ s e b. (b, refl, record { grew = omega arith; fits = simp length-set e; kinds = simp length-set; loads = simp length-set }) }
+  extends (some l) p = record {
+    run = λ s e b. (
+      b,
+      refl,
+      record { grew = omega arith; fits = simp length-set e; kinds = simp length-set; loads = simp length-set },
+    );
+  }
 
   ends : (l : Option Ends) (p : ℕ) → Goes n (ended l p) c (λ _ c'. c' ≡ c)
   unfolding ended patch _>>=_
   ends none p = record { run = λ s e b. (b, refl, same s e) }
-  ends (some l) p = record { run = λ s e b. (b, refl, record { grew = omega arith; fits = simp length-set e; kinds = simp length-set; loads = simp length-set }) }
+  ends (some l) p = record {
+    run = λ s e b. (
+      b,
+      refl,
+      record { grew = omega arith; fits = simp length-set e; kinds = simp length-set; loads = simp length-set },
+    );
+  }
 
 pub items : {n c : ℕ} (l : Option Ends) → Goes n (pushListItem l) c (λ _ c'. c' ≡ c)
 unfolding pushListItem
@@ -115,7 +164,11 @@ closes {n} {c} l = appends _ _ then λ p c' e. eased (λ _ _ e'. e' ∙ e) (ends
 
 -- a kind with a refusal of its own is not EndOfSource
 named : (k : ℕ) → Nonzero (refusalOf k) → k ≢ 0
-named k h e = let z : Nonzero (refusalOf 0) = rw e at h in let y : _≡_ {A = Bool} true false = z in let w : _≡_ {A = ℕ} 0 1 = cc in absurd (omega arith)
+named k h e =
+    let z : Nonzero (refusalOf 0) = rw e at h in
+    let y : _≡_ {A = Bool} true false = z in
+    let w : _≡_ {A = ℕ} 0 1 = cc in
+    absurd (omega arith)
 
 module _ {row : Row} {n : ℕ} (stop : Stop row n) where
   -- a token of another kind than EndOfSource stands before n
@@ -127,30 +180,47 @@ module _ {row : Row} {n : ℕ} (stop : Stop row n) where
   unfolding consume
   consumes {c} k h = record { run = λ s e b. go s e b (eqb (kindOf row c) k) refl }
     where
-      go : (s : Nodes) → s .count ≤ length (s .kinds) → c ≤ n → (t : Bool) → eqb (kindOf row c) k ≡ t → Left {A = Unit {0}} n (λ _ c'. c' ≡ c + 1) s (pick t (ok (tt {0})) (no (refusalOf k) c c)) (c + 1) s
+      go :
+          (s : Nodes) → s .count ≤ length (s .kinds) → c ≤ n →
+          (t : Bool) → eqb (kindOf row c) k ≡ t →
+          Left {A = Unit {0}} n (λ _ c'. c' ≡ c + 1) s (pick t (ok (tt {0})) (no (refusalOf k) c c)) (c + 1) s
       go s e b true d = let z : c < n = before k (named k h) d in (omega arith, refl, same s e)
       go s e b false d = (omega arith, h)
 
   -- whether the token stands here, and it is taken
-  pub optionally : {A : Type 0} {R : A → ℕ → Type 0} {c : ℕ} (k : ℕ) → Nonzero k → (f : Bool → Rule Nodes A) → (c < n → Goes n (f true) (c + 1) R) → Goes n (f false) c R → Goes n (optional row k >>= f) c R
+  pub optionally :
+      {A : Type 0} {R : A → ℕ → Type 0} {c : ℕ} (k : ℕ) → Nonzero k → (f : Bool → Rule Nodes A) →
+      (c < n → Goes n (f true) (c + 1) R) → Goes n (f false) c R → Goes n (optional row k >>= f) c R
   unfolding _>>=_ optional
   optionally {R = R} {c = c} k z f h g = record { run = λ s e b. go s e b (eqb (kindOf row c) k) refl }
     where
-      go : (s : Nodes) → s .count ≤ length (s .kinds) → c ≤ n → (t : Bool) → eqb (kindOf row c) k ≡ t → Left n R s (f t (pick t (c + 1) c) s .result) (f t (pick t (c + 1) c) s .cursor) (f t (pick t (c + 1) c) s .state)
+      go :
+          (s : Nodes) → s .count ≤ length (s .kinds) → c ≤ n →
+          (t : Bool) → eqb (kindOf row c) k ≡ t →
+          Left n R s
+          (f t (pick t (c + 1) c) s .result)
+          (f t (pick t (c + 1) c) s .cursor)
+          (f t (pick t (c + 1) c) s .state)
       go s e b true d = let x : c < n = before k (eqb-false k 0 z) d in h x .run s e (omega arith)
       go s e b false d = g .run s e b
 
   -- a token that was peeked is taken
-  pub takes : {A : Type 0} {R : A → ℕ → Type 0} {c : ℕ} (f : ℕ → Rule Nodes A) → c < n → Goes n (f (kindOf row c)) (c + 1) R → Goes n (take row >>= f) c R
+  pub takes :
+      {A : Type 0} {R : A → ℕ → Type 0} {c : ℕ} (f : ℕ → Rule Nodes A) →
+      c < n → Goes n (f (kindOf row c)) (c + 1) R → Goes n (take row >>= f) c R
   unfolding _>>=_ take
   takes f h g = record { run = λ s e b. g .run s e (omega arith) }
 
-  pub peeks : {A : Type 0} {R : A → ℕ → Type 0} {c : ℕ} (f : ℕ → Rule Nodes A) → Goes n (f (kindOf row c)) c R → Goes n (peek row >>= f) c R
+  pub peeks :
+      {A : Type 0} {R : A → ℕ → Type 0} {c : ℕ} (f : ℕ → Rule Nodes A) →
+      Goes n (f (kindOf row c)) c R → Goes n (peek row >>= f) c R
   unfolding _>>=_ peek
   peeks f h = record { run = h .run }
 
   -- the token peeked is of this kind, or not
-  pub tested : {A : Type 0} {R : A → ℕ → Type 0} {c : ℕ} {x y : Rule Nodes A} (k : ℕ) → Nonzero k → (c < n → Goes n x c R) → Goes n y c R → Goes n (pick (eqb (kindOf row c) k) x y) c R
+  pub tested :
+      {A : Type 0} {R : A → ℕ → Type 0} {c : ℕ} {x y : Rule Nodes A} (k : ℕ) → Nonzero k →
+      (c < n → Goes n x c R) → Goes n y c R → Goes n (pick (eqb (kindOf row c) k) x y) c R
   tested {A} {R} {c} {x} {y} k z h g = go (eqb (kindOf row c) k) refl
     where
       go : (t : Bool) → eqb (kindOf row c) k ≡ t → Goes n (pick t x y) c R
@@ -161,20 +231,32 @@ module _ {row : Row} {n : ℕ} (stop : Stop row n) where
 pub data Cases {A : Type 0} (n c c' : ℕ) (R : A → ℕ → Type 0) : List (ℕ × Rule Nodes A) → Rule Nodes A → Type 0 where
   refused : {x y z : ℕ} → Nonzero x → Cases n c c' R [] (refuse x y z)
   other : {d : Rule Nodes A} → c' ≡ c → Goes n d c' R → Cases n c c' R [] d
-  _or_ : {k : ℕ} {m d : Rule Nodes A} {es : List (ℕ × Rule Nodes A)} → (c < n → Goes n m c' R) → Cases n c c' R es d → Cases n c c' R ((suc k, m) ∷ es) d
+  _or_ :
+      {k : ℕ} {m d : Rule Nodes A} {es : List (ℕ × Rule Nodes A)} →
+      (c < n → Goes n m c' R) → Cases n c c' R es d → Cases n c c' R ((suc k, m) ∷ es) d
 
-module _ {row : Row} {n : ℕ} (stop : Stop row n) {A : Type 0} {R : A → ℕ → Type 0} {c c' : ℕ} (b : c ≤ n) (next : c' ≤ c + 1) (s : Nodes) (room : s .count ≤ length (s .kinds)) where
-  chosen : (k j : ℕ) → k ≡ kindOf row c → (m d : Rule Nodes A) → (c < n → Goes n m c' R) → Leaves n R c' s d → (t : Bool) → eqb k (suc j) ≡ t → Leaves n R c' s (pick t m d)
-  chosen k j e m d g h true q = let x : c < n = stop .within c (λ z. let y : suc j ≡ 0 = sym (eqb-true _ _ q) ∙ e ∙ z in absurd (omega arith)) in g x .run s room (omega arith)
+module _ {row : Row} {n : ℕ} (stop : Stop row n) {A : Type 0} {R : A → ℕ → Type 0} {c c' : ℕ}
+    (b : c ≤ n) (next : c' ≤ c + 1) (s : Nodes) (room : s .count ≤ length (s .kinds)) where
+  chosen :
+      (k j : ℕ) → k ≡ kindOf row c → (m d : Rule Nodes A) →
+      (c < n → Goes n m c' R) → Leaves n R c' s d →
+      (t : Bool) → eqb k (suc j) ≡ t → Leaves n R c' s (pick t m d)
+  chosen k j e m d g h true q =
+      let x : c < n = stop .within c (λ z. let y : suc j ≡ 0 = sym (eqb-true _ _ q) ∙ e ∙ z in absurd (omega arith)) in
+      g x .run s room (omega arith)
   chosen k j e m d g h false q = h
 
-  chooses : (k : ℕ) → k ≡ kindOf row c → {es : List (ℕ × Rule Nodes A)} {d : Rule Nodes A} → Cases n c c' R es d → Leaves n R c' s (choose k es d)
+  chooses :
+      (k : ℕ) → k ≡ kindOf row c → {es : List (ℕ × Rule Nodes A)} {d : Rule Nodes A} →
+      Cases n c c' R es d → Leaves n R c' s (choose k es d)
   unfolding choose
   chooses k e (refused h) = (omega arith, h)
   chooses k e (other q h) = h .run s room (omega arith)
-  chooses k e (_or_ {k = j} {m = m} {d = d} {es = es} g gs) = chosen k j e m (choose k es d) g (chooses k e gs) (eqb k (suc j)) refl
+  chooses k e (_or_ {k = j} {m = m} {d = d} {es = es} g gs) =
+      chosen k j e m (choose k es d) g (chooses k e gs) (eqb k (suc j)) refl
 
-module _ {row : Row} {n : ℕ} (stop : Stop row n) {A : Type 0} {R : A → ℕ → Type 0} {c : ℕ} {d : Rule Nodes A} {es : List (ℕ × Rule Nodes A)} where
+module _ {row : Row} {n : ℕ} (stop : Stop row n) {A : Type 0} {R : A → ℕ → Type 0} {c : ℕ}
+    {d : Rule Nodes A} {es : List (ℕ × Rule Nodes A)} where
   -- the token's rule, after it
   pub taking : Cases n c (c + 1) R es d → Goes n (take row >>= λ k. choose k es d) c R
   unfolding _>>=_ take
@@ -190,7 +272,9 @@ abbrev pub Round : {A B : Type 0} → (ℕ → Type 0) → ℕ → Step A B → 
 Round I c (again a) c' = (c < c') × I c'
 Round I c (done b) c' = c ≤ c'
 
-earlier-round : {A B : Type 0} (I : ℕ → Type 0) {c₀ c : ℕ} → c₀ ≤ c → (r : Step A B) (p : ℕ) → Round I c r p → Round I c₀ r p
+earlier-round :
+    {A B : Type 0} (I : ℕ → Type 0) {c₀ c : ℕ} → c₀ ≤ c →
+    (r : Step A B) (p : ℕ) → Round I c r p → Round I c₀ r p
 earlier-round I h (again a) p q = (omega arith, q .1)
 earlier-round I h (done b) p q = omega arith
 
@@ -199,23 +283,37 @@ module _ {n : ℕ} {A B : Type 0} {I : ℕ → Type 0} where
   pub earlier : {m : Rule Nodes (Step A B)} {c₀ c : ℕ} → c₀ ≤ c → Goes n m c (Round I c) → Goes n m c (Round I c₀)
   earlier h = eased (earlier-round I h)
 
-  onwards : {c c₀ : ℕ} → c₀ ≤ c → {k : A → Rule Nodes B} → ((a : A) (c' : ℕ) → c < c' → I c' → Goes n (k a) c' (λ _ p. c₀ ≤ p)) → (r : Step A B) (c' : ℕ) → Round I c r c' → Goes n (onward r k) c' (λ _ p. c₀ ≤ p)
+  onwards :
+      {c c₀ : ℕ} → c₀ ≤ c → {k : A → Rule Nodes B} →
+      ((a : A) (c' : ℕ) → c < c' → I c' → Goes n (k a) c' (λ _ p. c₀ ≤ p)) →
+      (r : Step A B) (c' : ℕ) → Round I c r c' → Goes n (onward r k) c' (λ _ p. c₀ ≤ p)
   onwards b g (again a) c' q = g a c' (q .0) (q .1)
   onwards b g (done d) c' q = pures (omega arith)
 
-module _ {n : ℕ} {A B : Type 0} {I : ℕ → Type 0} {f : A → Rule Nodes (Step A B)} (h : (a : A) (c : ℕ) → I c → Goes n (f a) c (Round I c)) where
+module _ {n : ℕ} {A B : Type 0} {I : ℕ → Type 0} {f : A → Rule Nodes (Step A B)}
+    (h : (a : A) (c : ℕ) → I c → Goes n (f a) c (Round I c)) where
   -- from c₀ on, with so many rounds left
-  repeats : (over : Rule Nodes B) (c₀ left : ℕ) (a : A) (c : ℕ) → c₀ ≤ c → I c → ((c' : ℕ) → c + left ≤ c' → Goes n over c' (λ _ p. c₀ ≤ p)) → Goes n (repeat f over left a) c (λ _ p. c₀ ≤ p)
+  repeats :
+      (over : Rule Nodes B) (c₀ left : ℕ) (a : A) (c : ℕ) → c₀ ≤ c → I c →
+      ((c' : ℕ) → c + left ≤ c' → Goes n over c' (λ _ p. c₀ ≤ p)) →
+      Goes n (repeat f over left a) c (λ _ p. c₀ ≤ p)
   unfolding repeat
   repeats over c₀ zero a c b i o = o c (omega arith)
-  repeats over c₀ (suc left) a c b i o = h a c i then onwards b (λ a' c' g i'. repeats over c₀ left a' c' (omega arith) i' (λ p g'. o p (omega arith)))
+  repeats over c₀ (suc left) a c b i o =
+      h a c i then onwards b (λ a' c' g i'. repeats over c₀ left a' c' (omega arith) i' (λ p g'. o p (omega arith)))
 
 module _ {n : ℕ} {A B : Type 0} {I : ℕ → Type 0} (row : Row) {f : A → Rule Nodes (Step A B)} where
   -- a loop never runs out, since each round takes a token
-  pub loops : ((a : A) (c : ℕ) → I c → Goes n (f a) c (Round I c)) → n ≤ length (row .kinds) → (a : A) (c : ℕ) → I c → Goes n (loop row f a) c (λ _ p. c ≤ p)
+  pub loops :
+      ((a : A) (c : ℕ) → I c → Goes n (f a) c (Round I c)) → n ≤ length (row .kinds) →
+      (a : A) (c : ℕ) → I c → Goes n (loop row f a) c (λ _ p. c ≤ p)
   unfolding loop
   loops h size a c i = repeats h _ c _ a c (omega arith) i (λ p g. knows λ b. absurd (omega arith))
 
 -- rounds of which so many are allowed, and then a refusal
-pub bounded : {n : ℕ} {A B : Type 0} {f : A → Rule Nodes (Step A B)} {over : Rule Nodes B} → ((a : A) (c : ℕ) → Goes n (f a) c (Round (λ _. Unit {0}) c)) → ((c c₀ : ℕ) → Goes n over c (λ _ p. c₀ ≤ p)) → (rounds : ℕ) (a : A) (c : ℕ) → Goes n (repeat f over rounds a) c (λ _ p. c ≤ p)
+pub bounded :
+    {n : ℕ} {A B : Type 0} {f : A → Rule Nodes (Step A B)} {over : Rule Nodes B} →
+    ((a : A) (c : ℕ) → Goes n (f a) c (Round (λ _. Unit {0}) c)) →
+    ((c c₀ : ℕ) → Goes n over c (λ _ p. c₀ ≤ p)) →
+    (rounds : ℕ) (a : A) (c : ℕ) → Goes n (repeat f over rounds a) c (λ _ p. c ≤ p)
 bounded h o rounds a c = repeats {I = λ _. Unit {0}} (λ a c _. h a c) _ c rounds a c (omega arith) tt (λ p g. o p c)

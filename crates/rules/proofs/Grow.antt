@@ -15,7 +15,8 @@ use Rattle.rules.specs.Demand.{Kept}
 use Rattle.rules.specs.Trees.{Tree, Forest, node, fnil, fcons}
 use Rattle.rules.specs.Columns.{Nodes, written, append}
 use Rattle.rules.specs.Ways.{links, kindAt, loadAt, shown, place, parts}
-use Rattle.rules.proofs.Ways.{Numbered, Row, numbered, rnil, rcons, root, roots, strip, strips, Stands, All, times, timesAll}
+use Rattle.rules.proofs.Ways.{Numbered, Row, numbered, rnil, rcons, root, roots, strip, strips}
+use Rattle.rules.proofs.Ways.{Stands, All, times, timesAll}
 use Rattle.rules.proofs.Laid.{Claim, nothing, cell, tree, _⋆_, holds, counts, On, turn, appended, kept}
 use Rattle.rules.proofs.Sim.{Sim, Both, Via, _then_}
 
@@ -51,10 +52,14 @@ Yields = Via root strip
 abbrev pub Follows : Nodes → Rule Nodes ℕ → Rule (Unit {0}) Tree → Type 0
 Follows o m m' = (F : Claim) → Sim o (At o [] F) (Yields (λ t. At o (t ∷ []) F)) m m'
 
-pub under : {o : Nodes} {ts : List Numbered} {F : Claim} {m : Rule Nodes ℕ} {m' : Rule (Unit {0}) Tree} → Follows o m m' → Sim o (At o ts F) (Yields (λ t. At o (t ∷ []) (above ts F))) m m'
+pub under :
+    {o : Nodes} {ts : List Numbered} {F : Claim} {m : Rule Nodes ℕ} {m' : Rule (Unit {0}) Tree} →
+    Follows o m m' → Sim o (At o ts F) (Yields (λ t. At o (t ∷ []) (above ts F))) m m'
 under {ts = ts} {F = F} h = record { run = λ c s k p. h (above ts F) .run c s k (record { on = p .on; placed = tt }) }
 
-pub pure-sim : {o : Nodes} {G : Numbered → Nodes → Type 0} (t : Numbered) → Sim o (G t) (Yields G) (pure (root t)) (pure (strip t))
+pub pure-sim :
+    {o : Nodes} {G : Numbered → Nodes → Type 0} (t : Numbered) →
+    Sim o (G t) (Yields G) (pure (root t)) (pure (strip t))
 pure-sim t = record { run = λ c s k p. (refl, k, (t, refl, refl, p)) }
 
 all-above : (ts : List Numbered) (F : Claim) (s : Nodes) → holds (above ts F) s → All s (row ts) × holds F s
@@ -85,36 +90,84 @@ above-all (t ∷ ts) F s a h = (a .0, above-all ts F s (a .1) h)
 
 module _ {o : Nodes} {P : Nodes → Type 0} {B : Type 0} {Q : ℕ → B → Nodes → Type 0} where
   -- an append, whose claim is what the tree's builder reads
-  pub append-sim : (k l : ℕ) (b : B) → ((s : Nodes) → P s → s .count < length (s .kinds) → (F : Claim) × On o F (written s (s .count) k l (s .count + 1)) × Q (s .count) b (written s (s .count) k l (s .count + 1))) → Sim o P Q (append k l) (pure b)
+  pub append-sim :
+      (k l : ℕ) (b : B) →
+      ((s : Nodes) → P s → s .count < length (s .kinds) →
+      (F : Claim) × On o F (written s (s .count) k l (s .count + 1)) ×
+      Q (s .count) b (written s (s .count) k l (s .count + 1))) →
+      Sim o P Q (append k l) (pure b)
   unfolding append
   append-sim k l b f = record { run = λ c s h p. go c s h p (ltb (s .count) (length (s .kinds))) refl }
     where
-      go : (c : ℕ) (s : Nodes) → Kept o s → P s → (t : Bool) → ltb (s .count) (length (s .kinds)) ≡ t → Both o Q (append k l c s .result) (append k l c s .cursor) (append k l c s .state) (ok b) c
+      go :
+          (c : ℕ) (s : Nodes) → Kept o s → P s → (t : Bool) → ltb (s .count) (length (s .kinds)) ≡ t →
+          Both o Q (append k l c s .result) (append k l c s .cursor) (append k l c s .state) (ok b) c
       go c s h p true e = let (F, x, y) = f s p (ltb-true (s .count) (length (s .kinds)) e) in rw e (refl, kept x, y)
       go c s h p false e = rw e (h, inl refl)
 
 module _ {o : Nodes} {F : Claim} where
   -- a node whose parts stand before it
-  pub node-sim : {ts : List Numbered} (k l : ℕ) → partsOf k ≡ backs 1 ts → Sim o (At o ts F) (Yields (λ t. At o (t ∷ []) F)) (append k l) (pure (node k l (strips (row ts))))
+  pub node-sim :
+      {ts : List Numbered} (k l : ℕ) → partsOf k ≡ backs 1 ts →
+      Sim o (At o ts F) (Yields (λ t. At o (t ∷ []) F)) (append k l) (pure (node k l (strips (row ts))))
   unfolding parts
   node-sim {ts} k l e =
       append-sim k l (node k l (strips (row ts))) λ s p r.
       let d : links (partsOf k) ≡ false = rw e (unlinked 1 ts) in
-      let on = turn {G = above (numbered (s .count) k l (row ts) ∷ []) F} (λ h. let (a, b) = all-above ts F _ (h .1) in ((h .0 .0, rw d (h .0 .1), rw (h .0 .0, h .0 .1, e) (places (s .count) l 1 ts (p .placed)), a), b)) (λ m. omega (arith, counts-above ts F m)) (appended k l r (p .on)) in
+      let on = turn
+      {G = above (numbered (s .count) k l (row ts) ∷ []) F}
+      (λ h. let (a, b) = all-above ts F _ (h .1) in (
+        (h .0 .0, rw d (h .0 .1), rw (h .0 .0, h .0 .1, e) (places (s .count) l 1 ts (p .placed)), a),
+        b,
+      ))
+      (λ m. omega (arith, counts-above ts F m))
+      (appended k l r (p .on)) in
       (_, on, (numbered (s .count) k l (row ts), refl, refl, record { on = on; placed = (refl, tt) }))
 
   -- a node without parts
-  pub leaf-sim : {ts : List Numbered} (k l : ℕ) → partsOf k ≡ [] → Sim o (At o ts F) (Yields (λ t. At o (t ∷ ts) F)) (append k l) (pure (node k l fnil))
+  pub leaf-sim :
+      {ts : List Numbered} (k l : ℕ) → partsOf k ≡ [] →
+      Sim o (At o ts F) (Yields (λ t. At o (t ∷ ts) F)) (append k l) (pure (node k l fnil))
   unfolding parts
   leaf-sim {ts} k l e =
       append-sim k l (node k l fnil) λ s p r.
-      let on = turn {G = above (numbered (s .count) k l rnil ∷ ts) F} (λ h. ((h .0 .0, rw e (h .0 .1), rw (h .0 .0, e), tt), h .1)) (λ m. omega arith) (appended k l r (p .on)) in
-      (_, on, (numbered (s .count) k l rnil, refl, refl, record { on = on; placed = (refl, further (s .count) 1 ts (p .placed)) }))
+      let on = turn
+      {G = above (numbered (s .count) k l rnil ∷ ts) F}
+      (λ h. ((h .0 .0, rw e (h .0 .1), rw (h .0 .0, e), tt), h .1))
+      (λ m. omega arith)
+      (appended k l r (p .on)) in (
+        _,
+        on,
+        (
+          numbered (s .count) k l rnil,
+          refl,
+          refl,
+          record { on = on; placed = (refl, further (s .count) 1 ts (p .placed)) },
+        ),
+      )
 
   -- a node that links to a tree among the others
-  pub link-sim : {ts : List Numbered} (k : ℕ) (u : Numbered) → partsOf k ≡ linked ∷ [] → Sim o (At o ts (tree u ⋆ F)) (Yields (λ t. At o (t ∷ ts) F)) (append k (root u)) (pure (node k 0 (fcons (strip u) fnil)))
+  pub link-sim :
+      {ts : List Numbered} (k : ℕ) (u : Numbered) → partsOf k ≡ linked ∷ [] →
+      Sim o (At o ts (tree u ⋆ F)) (Yields (λ t. At o (t ∷ ts) F))
+      (append k (root u)) (pure (node k 0 (fcons (strip u) fnil)))
   unfolding parts
   link-sim {ts} k u e =
       append-sim k (root u) (node k 0 (fcons (strip u) fnil)) λ s p r.
-      let on = turn {G = above (numbered (s .count) k 0 (rcons u rnil) ∷ ts) F} (λ h. let (a, b) = all-above ts (tree u ⋆ F) _ (h .1) in ((h .0 .0, rw e, rw (h .0 .0, h .0 .1, e), (b .0, tt)), above-all ts F _ a (b .1))) (λ m. omega (arith, counts-above ts F m, counts-above ts (tree u ⋆ F) m)) (appended k (root u) r (p .on)) in
-      (_, on, (numbered (s .count) k 0 (rcons u rnil), refl, refl, record { on = on; placed = (refl, further (s .count) 1 ts (p .placed)) }))
+      let on = turn
+      {G = above (numbered (s .count) k 0 (rcons u rnil) ∷ ts) F}
+      (λ h. let (a, b) = all-above ts (tree u ⋆ F) _ (h .1) in (
+        (h .0 .0, rw e, rw (h .0 .0, h .0 .1, e), (b .0, tt)),
+        above-all ts F _ a (b .1),
+      ))
+      (λ m. omega (arith, counts-above ts F m, counts-above ts (tree u ⋆ F) m))
+      (appended k (root u) r (p .on)) in (
+        _,
+        on,
+        (
+          numbered (s .count) k 0 (rcons u rnil),
+          refl,
+          refl,
+          record { on = on; placed = (refl, further (s .count) 1 ts (p .placed)) },
+        ),
+      )

@@ -11,10 +11,16 @@ use Rattle.rules.specs.Codes.Limit as Limit
 use Rattle.rules.specs.Reading.{Rule, Row, Step, again, done}
 use Rattle.rules.specs.Columns.{Nodes, Ends, columns, append, pushEndOfList}
 use Rattle.rules.specs.Types.{bracketed, arraySize, pointerTo, viewOf, arrayOf, innerFrom, innerType, type}
-use Rattle.rules.specs.Expressions.{binary, joined, listItem, commaList, exceeded, ampersand, ampersands, deref, string, strings, typedInteger, element, member, step, steps, reference, advanced, pointer, call, field, structural, named, builtin, elements, parenthesized, primary, prefixed, lengthOf, sizeOf, unary, coerced, singular, also, last, factor, product, bit, bitwise, term, sum, expression}
+use Rattle.rules.specs.Expressions.{binary, joined, listItem, commaList, exceeded, ampersand, ampersands, deref}
+use Rattle.rules.specs.Expressions.{string, strings, typedInteger, element, member, step, steps, reference}
+use Rattle.rules.specs.Expressions.{advanced, pointer, call, field, structural, named, builtin, elements}
+use Rattle.rules.specs.Expressions.{parenthesized, primary, prefixed, lengthOf, sizeOf, unary, coerced, singular}
+use Rattle.rules.specs.Expressions.{also, last, factor, product, bit, bitwise, term, sum, expression}
 use Rattle.rules.specs.Declarations.{colon, constant, memberItem, members, structure, struct, word}
 use Rattle.rules.specs.Declarations as Declarations
-use Rattle.rules.proofs.Forward.{Stop, Goes, Nonzero, Round, _then_, eased, pures, refuses, at-here, picks, knows, appends, items, closes, consumes, optionally, takes, peeks, tested, Cases, refused, other, _or_, taking, peeking, earlier, loops, bounded}
+use Rattle.rules.proofs.Forward.{Stop, Goes, Nonzero, Round, _then_, eased, pures, refuses, at-here, picks}
+use Rattle.rules.proofs.Forward.{knows, appends, items, closes, consumes, optionally, takes, peeks, tested}
+use Rattle.rules.proofs.Forward.{Cases, refused, other, _or_, taking, peeking, earlier, loops, bounded}
 
 module _ {row : Row} {n : ℕ} (stop : Stop row n) (size : n ≤ length (row .kinds)) where
   -- a token at least is taken
@@ -115,7 +121,8 @@ module _ {row : Row} {n : ℕ} (stop : Stop row n) (size : n ≤ length (row .ki
   abbrev pub Rounds : {A B : Type 0} → (A → Rule Nodes (Step A B)) → Type 0
   Rounds f = (a : _) (c : ℕ) → Goes n (f a) c (Round (λ _. Unit {0}) c)
 
-  module _ {m : Rule Nodes ℕ} (one : Moves m) (closing : ℕ) (closes-by : Nonzero (refusalOf closing)) (not-end : Nonzero closing) where
+  module _ {m : Rule Nodes ℕ} (one : Moves m) (closing : ℕ)
+      (closes-by : Nonzero (refusalOf closing)) (not-end : Nonzero closing) where
     pub item-list : Rounds (listItem columns row closing m)
     unfolding listItem
     item-list l c =
@@ -165,7 +172,10 @@ module _ {row : Row} {n : ℕ} (stop : Stop row n) (size : n ≤ length (row .ki
   unfolding strings
   strings-stays start c =
       optionally stop _ refl _
-      (λ h. loops row (λ a c _. string-round a c) size _ (c + 1) tt then λ end p q. appends _ _ then λ _ p1 q1. eased (λ _ _ e. omega arith) (appends _ _))
+      (λ h.
+      loops row (λ a c _. string-round a c) size _ (c + 1) tt then λ end p q.
+      appends _ _ then λ _ p1 q1.
+      eased (λ _ _ e. omega arith) (appends _ _))
       (eased (λ _ _ e. omega arith) (appends _ _))
 
   typed-integer : (at : ℕ) → Stays (typedInteger columns row at)
@@ -341,15 +351,24 @@ module _ {row : Row} {n : ℕ} (stop : Stop row n) (size : n ≤ length (row .ki
       unfolding coerced
       coerced-round e c =
           optionally stop _ refl _
-          (λ h. at-here _ (y (c + 1) then λ t p q. appends _ _ then λ _ p1 q1. appends _ _ then λ _ p2 q2. pures (omega arith, tt)))
+          (λ h. at-here _ (
+          y (c + 1) then λ t p q.
+          appends _ _ then λ _ p1 q1.
+          appends _ _ then λ _ p2 q2.
+          pures (omega arith, tt)))
           (pures (omega arith))
 
       pub singular-moves : Moves (singular columns row expr ty)
       unfolding singular
       singular-moves c =
           at-here _ (optionally stop _ refl _
-          (λ h. unary-moves (c + 1) then λ e p q. appends _ _ then λ d p1 q1. beyond (omega arith) (loops row (λ a c _. coerced-round a c) size d p1 tt))
-          (unary-moves c then λ e p q. pures {R = λ _ p1. p1 ≡ p} refl then λ d p1 q1. beyond (omega arith) (loops row (λ a c _. coerced-round a c) size d p1 tt)))
+          (λ h.
+          unary-moves (c + 1) then λ e p q.
+          appends _ _ then λ d p1 q1.
+          beyond (omega arith) (loops row (λ a c _. coerced-round a c) size d p1 tt))
+          (unary-moves c then λ e p q.
+          pures {R = λ _ p1. p1 ≡ p} refl then λ d p1 q1.
+          beyond (omega arith) (loops row (λ a c _. coerced-round a c) size d p1 tt)))
 
       module _ {m : Rule Nodes ℕ} (operand : Moves m) (op l c : ℕ) (h : c < n) where
         pub also-round : Goes n (also columns row expr ty m op l) c (Round (λ _. Unit {0}) c)
@@ -376,13 +395,17 @@ module _ {row : Row} {n : ℕ} (stop : Stop row n) (size : n ≤ length (row .ki
           beyond (omega arith) (loops row (λ a c _. factor-round a c) size e p tt)
 
       -- a round of bits begins at the operator
-      pub bit-round : (token op : ℕ) → Nonzero token → (l c : ℕ) → c < n → Goes n (bit columns row expr ty token op l) c (Round (λ p. p < n) c)
+      pub bit-round :
+          (token op : ℕ) → Nonzero token → (l c : ℕ) → c < n →
+          Goes n (bit columns row expr ty token op l) c (Round (λ p. p < n) c)
       unfolding bit
       bit-round token op z l c h =
           joined-takes unary-moves op l c h then λ b p q.
           peeks stop _ (tested stop token z (λ h'. pures (omega arith, h')) (pures (omega arith)))
 
-      pub bitwise-round : (token op : ℕ) → Nonzero token → (l c : ℕ) → c < n → Goes n (bitwise columns row expr ty token op l) c (Round (λ _. Unit {0}) c)
+      pub bitwise-round :
+          (token op : ℕ) → Nonzero token → (l c : ℕ) → c < n →
+          Goes n (bitwise columns row expr ty token op l) c (Round (λ _. Unit {0}) c)
       unfolding bitwise
       bitwise-round token op z l c h =
           loops row (bit-round token op z) size l c h then λ b p q.

@@ -6,7 +6,8 @@ use mathlib.Core.List.{List, [], _∷_}
 use lib.Dec.{eqb}
 use Rattle.rules.specs.Codes.{pick, refusalOf}
 use Rattle.rules.specs.Codes.BaseToken as BaseToken
-use Rattle.rules.specs.Reading.{Rule, Row, Result, ok, no, next, _>>=_, refuse, here, choose, kindOf, peek, take, consume, optional}
+use Rattle.rules.specs.Reading.{Rule, Result, ok, no, next, _>>=_, refuse, here}
+use Rattle.rules.specs.Reading.{Row, kindOf, peek, take, consume, optional, choose}
 use Rattle.rules.specs.Columns.{Nodes, columns}
 use Rattle.rules.specs.Types.{innerFrom, innerType, type}
 use Rattle.rules.specs.Expressions.{primary, unary, singular, product, sum, expression}
@@ -41,7 +42,9 @@ module _ (row : Row) {c : ℕ} (e : kindOf row c ≡ BaseToken.EndOfSource) wher
   consumes k d h = record { run = λ s. rw (e, d) h }
 
   -- such a token may stand here
-  optionally : {A : Type 0} (k : ℕ) → eqb 0 k ≡ false → (f : Bool → Rule Nodes A) → Refuses (f false) c → Refuses (optional row k >>= f) c
+  optionally :
+      {A : Type 0} (k : ℕ) → eqb 0 k ≡ false →
+      (f : Bool → Rule Nodes A) → Refuses (f false) c → Refuses (optional row k >>= f) c
   unfolding _>>=_ optional
   optionally k d f h = record { run = λ s. rw (e, d) (h .run s) }
 

@@ -8,7 +8,8 @@ use Rattle.rules.specs.Reading.{Rule, Row}
 use Rattle.rules.specs.Trees.{Tree, trees}
 use Rattle.rules.specs.Columns.{Nodes, columns}
 use Rattle.rules.specs.Types.{bracketed, arraySize, pointerTo, viewOf, arrayOf, innerFrom, innerType, type}
-use Rattle.rules.proofs.Sim.{Sim, Alike, other, _or_, _same_, here-sim, take-sim, consume-sim, pure-alike, refuse-sim, pick-sim, choose-sim, grow}
+use Rattle.rules.proofs.Sim.{Sim, Alike, other, _or_, _same_, grow}
+use Rattle.rules.proofs.Sim.{here-sim, take-sim, consume-sim, pure-alike, refuse-sim, pick-sim, choose-sim}
 use Rattle.rules.proofs.Grow.{Follows, pure-sim, node-sim, leaf-sim}
 
 module _ (o : Nodes) (row : Row) where
@@ -16,7 +17,9 @@ module _ (o : Nodes) (row : Row) where
   abbrev Array : ℕ × ℕ → Type 0
   Array a = partsOf (a .0) ≡ back 1 ∷ []
 
-  bracketed-sim : {P : Nodes → Type 0} (kind load : ℕ) → partsOf kind ≡ back 1 ∷ [] → Sim o P (Alike Array P) (bracketed columns row kind load) (bracketed trees row kind load)
+  bracketed-sim :
+      {P : Nodes → Type 0} (kind load : ℕ) → partsOf kind ≡ back 1 ∷ [] →
+      Sim o P (Alike Array P) (bracketed columns row kind load) (bracketed trees row kind load)
   unfolding bracketed
   bracketed-sim kind load e = consume-sim row _ same λ _ _. pure-alike e
 
