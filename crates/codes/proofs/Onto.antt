@@ -11,7 +11,7 @@ use Rattle.codes.specs.declared.Parsed.{Parsed}
 use Rattle.codes.specs.declared.Parsed.the-variants.{Node, Refused}
 use Rattle.codes.specs.declared.NodeId.{NodeId}
 use Rattle.codes.specs.declared.TokenId.{TokenId}
-use Rattle.codes.specs.Answer.{Form, As, Gives, answer, refusal, parsed, nodes, token, nodeId}
+use Rattle.codes.specs.Answer.{Form, As, Gives, Sized, answer, refusal, parsed, nodes, token, nodeId}
 use Rattle.rules.specs.Codes.{pick, entry}
 use Rattle.rules.specs.Reading.{Result, ok, no, Outcome, Rule, next, Row, kindOf, _>>=_, here, take, peek, choose, pure, refuse}
 use Rattle.rules.specs.Columns.{Nodes}
@@ -73,6 +73,32 @@ module _ {A B C : Type 0} (m : Rule Nodes A) (f : A → Rule Nodes B) (g : B →
           next (next q c s f .result) (next q c s f .cursor) (next q c s f .state) g ≡ next q c s (λ a. (f a >>= g))
       go (ok a) c s = refl
       go (no n x y) c s = refl
+
+-- what the last arm of a match on k knows, after what is known before
+abbrev pub Rest : ℕ → Type 0 → List ℕ → Type 0
+Rest k known [] = known
+Rest k known (j ∷ js) = Rest k (known × (k ≡ j → ⊥)) js
+
+abbrev pub keys : {A : Type 0} → List (ℕ × A) → List ℕ
+keys [] = []
+keys (e ∷ es) = e .0 ∷ keys es
+
+before : (k : ℕ) (known : Type 0) (js : List ℕ) → Rest k known js → known
+before k known [] h = h
+before k known (j ∷ js) h = before k (known × (k ≡ j → ⊥)) js h .0
+
+no-entry : {A : Type 0} (k : ℕ) (known : Type 0) (es : List (ℕ × A)) (d : A) → Rest k known (keys es) → entry k es d ≡ d
+no-entry k known [] d h = refl
+no-entry k known (e ∷ es) d h =
+    rw (ne-eqb k (e .0) (before k (known × (k ≡ e .0 → ⊥)) (keys es) h .1))
+    (no-entry k (known × (k ≡ e .0 → ⊥)) es d h)
+
+-- none of a table's keys: the rule beside the table
+pub beside :
+    {A : Type 0} {c : ℕ} {s : Nodes} (k : ℕ) (es : List (ℕ × Rule Nodes A)) (d : Rule Nodes A) →
+    Rest k (Unit {0}) (keys es) → Onto (choose k es d) c s d c s
+unfolding choose
+beside k es d h = record { same = rw (no-entry k (Unit {0}) es d h) refl }
 
 pub picked :
     {A : Type 0} {b : Bool} {c : ℕ} {s : Nodes} (x y : Rule Nodes A) (v : Bool) → b ≡ v →
@@ -216,3 +242,19 @@ pub moved :
     {n : ℕ} {Q : A → ℕ → Type 0} → Goes n m c Q → s .count ≤ length (s .kinds) → c ≤ n →
     (c' ≤ n) × Q a c' × Grown s s'
 moved {s = s} e {n = n} {Q = Q} h room b = let l = h .run s room b in rw (e .same) at l
+
+-- what a reader takes for granted holds after one that it calls
+module _ {tk tv ns ls : List ℕ} {c k : ℕ} (z : Sized tk tv ns ls c k) {A R : Type 0} {F : Form A R} (P : Plain F) {m : Rule Nodes A} {Q : A → ℕ → Type 0} (h : Goes (length tk) m c Q) {r : R} {ns' ls' : List ℕ} (g : As F m c (nodes ns ls k) r ns' ls') where
+  pub sized-after : {a : A} {p j : ℕ} → r ≡ F .read a p j → Sized tk tv ns' ls' p j × Q a p
+  sized-after q =
+      let (b, d, w) = moved (came-read P g q) h (z .used) (z .at) in (
+        record {
+          types = z .types;
+          tokens = z .tokens;
+          at = b;
+          loads = w .loads ∙ z .loads ∙ sym (w .kinds);
+          slots = rw (w .kinds) (z .slots);
+          used = w .fits;
+        },
+        d,
+      )

@@ -79,7 +79,7 @@ module _ {o : Nodes} {m : Rule Nodes ℕ} {m' : Rule (Unit {0}) Tree} (h : Follo
       go (no x y v) q d = d .0
 
 -- a row's tokens stand below its length, and below its last place where EndOfSource stands there
-below : (row : Row) → Stop row (length (row .kinds))
+pub below : (row : Row) → Stop row (length (row .kinds))
 below row = record {
   within = λ i h. elim (decLe (length (row .kinds)) i) [
     | Dec.yes d ↦ absurd (h (getD-past (row .kinds) i 0 d))

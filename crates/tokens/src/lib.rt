@@ -1,6 +1,6 @@
 // The row and its cursor, after the Rust's parser/tokens.rs. The cursor is passed and returned by value.
 ghost use mathlib.Core.Path.{_≡_};
-ghost use Prim.Native.Nat.{_≤_};
+ghost use Prim.Native.Nat.{_+_, _≤_};
 ghost use Rattle.rules.specs.Codes.Limit as Most;
 ghost use Rattle.rules.specs.Reading.{optional, take as takeRule};
 ghost use Rattle.codes.specs.Answer.{Quiet, row};
@@ -41,7 +41,7 @@ pub fn peek(kinds: &[u8], cursor: TokenId) -> u8
 
 // The token at the cursor is taken.
 pub fn take(kinds: &[u8], cursor: TokenId) -> Taken
-    requires { ⌜ cursor .0 ≤ Most.Tokens ⌝ }
+    requires { ⌜ cursor .0 ≤ Most.Tokens + 1 ⌝ }
     ensures { λ r. ⌜ Taking (takeRule (row (now (kinds .entry)) (now (kinds .entry))) (cursor .0) tt) r ⌝ }
 {
     Taken {
@@ -52,7 +52,7 @@ pub fn take(kinds: &[u8], cursor: TokenId) -> Taken
 
 // The token at the cursor is taken, and refused where it is not of the kind expected.
 pub fn consume(kinds: &[u8], cursor: TokenId, count: u32, expected: u8) -> Consumed
-    requires { ⌜ cursor .0 ≤ Most.Tokens ⌝ }
+    requires { ⌜ cursor .0 ≤ Most.Tokens + 1 ⌝ }
     ensures { λ r. ⌜ Quiet consumed (consuming expected) (now (kinds .entry)) (cursor .0) count r ⌝ }
 {
     let next = TokenId(cursor.0 + 1);
@@ -76,7 +76,7 @@ pub fn consume(kinds: &[u8], cursor: TokenId, count: u32, expected: u8) -> Consu
 
 // The token at the cursor is taken where it is of the kind expected.
 pub fn consume_optional(kinds: &[u8], cursor: TokenId, expected: u8) -> Optional
-    requires { ⌜ cursor .0 ≤ Most.Tokens ⌝ }
+    requires { ⌜ cursor .0 ≤ Most.Tokens + 1 ⌝ }
     ensures { λ r. ⌜ Optionally (optional (row (now (kinds .entry)) (now (kinds .entry))) expected (cursor .0) tt) r ⌝ }
 {
     if peek(kinds, cursor) == expected {
