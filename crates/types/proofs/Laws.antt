@@ -1,7 +1,10 @@
 -- How the answers of the readers of types follow from those of the readers that they call, a law for each return.
 use mathlib.Core.Path.{_≡_, refl, sym, _∙_, ap}
+use mathlib.Core.Bool.{Bool, true, false}
 use mathlib.Core.List.{List, [], _∷_}
 use Prim.Native.Nat.{ℕ, zero, suc, _+_, _-_, _≤_, _<_}
+use lib.Dec.{ltb}
+use borrow.Author.Tests.{lt-ltb, le-ltb}
 use native.Mathlib.Omega.{arith}
 use native.Mathlib.Numerals.{sub-one}
 use Rattle.codes.specs.declared.Parsed.{Parsed}
@@ -9,7 +12,7 @@ use Rattle.codes.specs.declared.Parsed.the-variants.{Node, Refused}
 use Rattle.codes.specs.declared.NodeId.{NodeId}
 use Rattle.codes.specs.declared.TokenId.{TokenId}
 use Rattle.codes.specs.Answer.{As, Gives, Quiet, nodes, token, nodeId, row, refusal}
-use Rattle.codes.proofs.Onto.{Onto, _then_, stays, reads, at-here, takes, answers, declines, shows, told, held, hands-on, came-read, plain-parsed, Plain, Holding, Rest, beside}
+use Rattle.codes.proofs.Onto.{Onto, _then_, stays, reads, at-here, takes, answers, declines, shows, told, held, hands-on, came-read, plain-parsed, Plain, Holding, Rest, beside, picked}
 use Rattle.tokens.specs.declared.Consumed.{Consumed}
 use Rattle.tokens.specs.declared.Consumed.the-variants.{Next, Wrong}
 use Rattle.tokens.specs.Answer.{kindIn, consumed, consuming}
@@ -17,7 +20,7 @@ use Rattle.tokens.proofs.Laws.{holding-consumed}
 use Rattle.types.specs.declared.ArraySize.{ArraySize}
 use Rattle.types.specs.declared.ArraySize.the-variants.{Size, NoSize}
 use Rattle.types.specs.Answer.{sized, closing}
-use Rattle.rules.specs.Codes.{_⇒_}
+use Rattle.rules.specs.Codes.{pick}
 use Rattle.rules.specs.Codes.BaseToken as BaseToken
 use Rattle.rules.specs.Codes.ParseNode as ParseNode
 use Rattle.rules.specs.Codes.Refusal as Refusal
@@ -196,3 +199,35 @@ pub no-type :
 unfolding innerFrom
 no-type tk tv u c t k ks ls left peeked h =
     declines (rw (deeper (row tk tv) u left) (at-here _ then takes _ _ peeked then beside t _ _ h))
+
+-- a type, once its inner type is read or refused
+module _ (tk tv : List ℕ) (u c : ℕ) {s : Nodes} {r₁ : Parsed} {ks₁ ls₁ : List ℕ} (g : Gives (innerType columns (row tk tv) u) c s r₁ ks₁ ls₁) where
+  pub type-stopped :
+      {x : ℕ} {a e p : TokenId} {k : ℕ} → r₁ ≡ Refused x a e p k → Gives (type columns (row tk tv) u) c s r₁ ks₁ ls₁
+  unfolding type
+  type-stopped q = hands-on _ (at-here _) (told g q)
+
+  module _ {n : NodeId} {p : TokenId} {k : ℕ} (q : r₁ ≡ Node n p k) where
+    -- the length of the type's span, and what is to follow
+    spans :
+        (b : Bool) → ltb (c + 1) (p .0) ≡ b →
+        Onto (type columns (row tk tv) u) c s
+        (pick b (append ParseNode.EndOfSpan (p .0) >>= λ _. append ParseNode.CompositeValueType c) (pure (n .0))) (p .0)
+        (nodes ks₁ ls₁ k)
+    unfolding type
+    spans b e = at-here _ then reads _ (came-read plain-parsed g q) then at-here _ then picked _ _ b e
+
+    pub type-single : p .0 ≤ c + 1 → Gives (type columns (row tk tv) u) c s (Node n p k) ks₁ ls₁
+    type-single h = answers (spans false (le-ltb _ _ h))
+
+    module _ (h : c + 1 < p .0) {r₂ : Parsed} {ks₂ ls₂ : List ℕ} (d : Gives (append ParseNode.EndOfSpan (p .0)) (p .0) (nodes ks₁ ls₁ k) r₂ ks₂ ls₂) where
+      pub span-stopped :
+          {x : ℕ} {a e p' : TokenId} {j : ℕ} → r₂ ≡ Refused x a e p' j →
+          Gives (type columns (row tk tv) u) c s r₂ ks₂ ls₂
+      span-stopped w = hands-on _ (spans true (lt-ltb _ _ h)) (told d w)
+
+      pub type-read :
+          {m : NodeId} {p' : TokenId} {j : ℕ} → r₂ ≡ Node m p' j → {r : Parsed} {ks ls : List ℕ} →
+          Gives (append ParseNode.CompositeValueType c) (p' .0) (nodes ks₂ ls₂ j) r ks ls →
+          Gives (type columns (row tk tv) u) c s r ks ls
+      type-read w f = shows (spans true (lt-ltb _ _ h) then reads _ (came-read plain-parsed d w)) f
