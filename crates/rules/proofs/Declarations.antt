@@ -53,7 +53,7 @@ module _ (o : Nodes) (row : Row) where
 
   member-item :
       {F : Claim} (unused : ℕ) (us : List Numbered) →
-      Sim o (At o [] (opened us ⋆ F)) (Stepped (Open o row F) (Open o row F))
+      Sim o (At o [] (opened us ⋆ F)) (Stepped (Open o F) (Open o F))
       (memberItem columns row unused (ends us)) (memberItem trees row unused (contents us))
   unfolding memberItem
   member-item {F} unused us =
@@ -66,7 +66,7 @@ module _ (o : Nodes) (row : Row) where
 
   members-sim :
       {F : Claim} (unused : ℕ) →
-      Sim o (At o [] F) (First o row F) (members columns row unused) (members trees row unused)
+      Sim o (At o [] F) (First o F) (members columns row unused) (members trees row unused)
   unfolding members
   members-sim unused =
       consume-sim row _ same λ _ _.
@@ -77,7 +77,7 @@ module _ (o : Nodes) (row : Row) where
   structure-sim :
       {F : Claim} (start flags size name : ℕ) (l : Numbered) →
       Sim o (At o [] (tree l ⋆ F)) (Yields (λ t. At o (t ∷ []) F))
-      (structure columns row start flags size name (root l)) (structure trees row start flags size name (strip l))
+      (structure columns start flags size name (root l)) (structure trees start flags size name (strip l))
   unfolding structure
   structure-sim start flags size name l =
       grow _ _ (link-sim _ l refl) λ s.

@@ -267,53 +267,52 @@ module _ {row : Row} {n : ℕ} (stop : Stop row n) {A : Type 0} {R : A → ℕ �
   unfolding _>>=_ peek
   peeking h = record { run = λ s e b. chooses stop b (omega arith) s e (kindOf row c) refl h }
 
--- A round from c: before another one the cursor has moved, and I holds of it.
-abbrev pub Round : {A B : Type 0} → (ℕ → Type 0) → ℕ → Step A B → ℕ → Type 0
-Round I c (again a) c' = (c < c') × I c'
-Round I c (done b) c' = c ≤ c'
+-- A round from c: before another one the cursor has moved, and after the last one by k at least.
+abbrev pub Round : {A B : Type 0} → ℕ → ℕ → Step A B → ℕ → Type 0
+Round k c (again a) c' = c < c'
+Round k c (done b) c' = c + k ≤ c'
 
-earlier-round :
-    {A B : Type 0} (I : ℕ → Type 0) {c₀ c : ℕ} → c₀ ≤ c →
-    (r : Step A B) (p : ℕ) → Round I c r p → Round I c₀ r p
-earlier-round I h (again a) p q = (omega arith, q .1)
-earlier-round I h (done b) p q = omega arith
+earlier-round : {A B : Type 0} (k : ℕ) {c₀ c : ℕ} → c₀ ≤ c → (r : Step A B) (p : ℕ) → Round k c r p → Round k c₀ r p
+earlier-round k h (again a) p q = omega arith
+earlier-round k h (done b) p q = omega arith
 
-module _ {n : ℕ} {A B : Type 0} {I : ℕ → Type 0} where
+-- a round after a token was taken
+pub strict : {A B : Type 0} (c₀ c : ℕ) (r : Step A B) (p : ℕ) → c₀ < c → Round 0 c r p → Round 1 c₀ r p
+strict c₀ c (again a) p h q = omega arith
+strict c₀ c (done b) p h q = omega arith
+
+module _ {n : ℕ} {A B : Type 0} (k : ℕ) where
   -- a round said of an earlier cursor
-  pub earlier : {m : Rule Nodes (Step A B)} {c₀ c : ℕ} → c₀ ≤ c → Goes n m c (Round I c) → Goes n m c (Round I c₀)
-  earlier h = eased (earlier-round I h)
+  pub earlier : {m : Rule Nodes (Step A B)} {c₀ c : ℕ} → c₀ ≤ c → Goes n m c (Round k c) → Goes n m c (Round k c₀)
+  earlier h = eased (earlier-round k h)
 
   onwards :
-      {c c₀ : ℕ} → c₀ ≤ c → {k : A → Rule Nodes B} →
-      ((a : A) (c' : ℕ) → c < c' → I c' → Goes n (k a) c' (λ _ p. c₀ ≤ p)) →
-      (r : Step A B) (c' : ℕ) → Round I c r c' → Goes n (onward r k) c' (λ _ p. c₀ ≤ p)
-  onwards b g (again a) c' q = g a c' (q .0) (q .1)
+      {c c₀ : ℕ} → c₀ ≤ c → {g : A → Rule Nodes B} →
+      ((a : A) (c' : ℕ) → c < c' → Goes n (g a) c' (λ _ p. c₀ + k ≤ p)) →
+      (r : Step A B) (c' : ℕ) → Round k c r c' → Goes n (onward r g) c' (λ _ p. c₀ + k ≤ p)
+  onwards b g (again a) c' q = g a c' q
   onwards b g (done d) c' q = pures (omega arith)
 
-module _ {n : ℕ} {A B : Type 0} {I : ℕ → Type 0} {f : A → Rule Nodes (Step A B)}
-    (h : (a : A) (c : ℕ) → I c → Goes n (f a) c (Round I c)) where
+module _ {n : ℕ} {A B : Type 0} (k : ℕ) {f : A → Rule Nodes (Step A B)}
+    (h : (a : A) (c : ℕ) → Goes n (f a) c (Round k c)) where
   -- from c₀ on, with so many rounds left
   repeats :
-      (over : Rule Nodes B) (c₀ left : ℕ) (a : A) (c : ℕ) → c₀ ≤ c → I c →
-      ((c' : ℕ) → c + left ≤ c' → Goes n over c' (λ _ p. c₀ ≤ p)) →
-      Goes n (repeat f over left a) c (λ _ p. c₀ ≤ p)
+      (over : Rule Nodes B) (c₀ left : ℕ) (a : A) (c : ℕ) → c₀ ≤ c →
+      ((c' : ℕ) → c + left ≤ c' → Goes n over c' (λ _ p. c₀ + k ≤ p)) →
+      Goes n (repeat f over left a) c (λ _ p. c₀ + k ≤ p)
   unfolding repeat
-  repeats over c₀ zero a c b i o = o c (omega arith)
-  repeats over c₀ (suc left) a c b i o =
-      h a c i then onwards b (λ a' c' g i'. repeats over c₀ left a' c' (omega arith) i' (λ p g'. o p (omega arith)))
+  repeats over c₀ zero a c b o = o c (omega arith)
+  repeats over c₀ (suc left) a c b o =
+      h a c then onwards k b (λ a' c' g. repeats over c₀ left a' c' (omega arith) (λ p g'. o p (omega arith)))
 
-module _ {n : ℕ} {A B : Type 0} {I : ℕ → Type 0} (row : Row) {f : A → Rule Nodes (Step A B)} where
   -- a loop never runs out, since each round takes a token
   pub loops :
-      ((a : A) (c : ℕ) → I c → Goes n (f a) c (Round I c)) → n ≤ length (row .kinds) →
-      (a : A) (c : ℕ) → I c → Goes n (loop row f a) c (λ _ p. c ≤ p)
+      (row : Row) → n ≤ length (row .kinds) → (a : A) (c : ℕ) → Goes n (loop row f a) c (λ _ p. c + k ≤ p)
   unfolding loop
-  loops h size a c i = repeats h _ c _ a c (omega arith) i (λ p g. knows λ b. absurd (omega arith))
+  loops row size a c = repeats _ c _ a c (omega arith) (λ p g. knows λ b. absurd (omega arith))
 
--- rounds of which so many are allowed, and then a refusal
-pub bounded :
-    {n : ℕ} {A B : Type 0} {f : A → Rule Nodes (Step A B)} {over : Rule Nodes B} →
-    ((a : A) (c : ℕ) → Goes n (f a) c (Round (λ _. Unit {0}) c)) →
-    ((c c₀ : ℕ) → Goes n over c (λ _ p. c₀ ≤ p)) →
-    (rounds : ℕ) (a : A) (c : ℕ) → Goes n (repeat f over rounds a) c (λ _ p. c ≤ p)
-bounded h o rounds a c = repeats {I = λ _. Unit {0}} (λ a c _. h a c) _ c rounds a c (omega arith) tt (λ p g. o p c)
+  -- rounds of which so many are allowed, and then a refusal
+  pub bounded :
+      {over : Rule Nodes B} → ((c c₀ : ℕ) → Goes n over c (λ _ p. c₀ + k ≤ p)) →
+      (rounds : ℕ) (a : A) (c : ℕ) → Goes n (repeat f over rounds a) c (λ _ p. c + k ≤ p)
+  bounded o rounds a c = repeats _ c rounds a c (omega arith) (λ p g. o p c)

@@ -1,26 +1,33 @@
 -- Each rule: how it moves the cursor, that it appends within the slots, and that its loops end.
 use Prim.Native.Nat.{ℕ, zero, suc, _+_, _≤_, _<_}
 use native.Mathlib.Omega.{arith}
+use mathlib.Core.Bool.{Bool, true, false}
 use mathlib.Core.Path.{_≡_, refl}
 use mathlib.Core.Option.{Option, none}
 use mathlib.Core.List.{List, [], _∷_}
 use lib.ListN.{length}
 use lib.Dec.{ltb, eqb}
-use Rattle.rules.specs.Codes.{refusalOf}
+use Rattle.rules.specs.Codes.{pick, refusalOf}
 use Rattle.rules.specs.Codes.Limit as Limit
 use Rattle.rules.specs.Reading.{Rule, Row, Step, again, done}
 use Rattle.rules.specs.Columns.{Nodes, Ends, columns, append, pushEndOfList}
 use Rattle.rules.specs.Types.{bracketed, arraySize, pointerTo, viewOf, arrayOf, innerFrom, innerType, type}
-use Rattle.rules.specs.Expressions.{binary, joined, listItem, commaList, exceeded, ampersand, ampersands, deref}
-use Rattle.rules.specs.Expressions.{string, strings, typedInteger, element, member, step, steps, reference}
-use Rattle.rules.specs.Expressions.{advanced, pointer, call, field, structural, named, builtin, elements}
-use Rattle.rules.specs.Expressions.{parenthesized, primary, prefixed, lengthOf, sizeOf, unary, coerced, singular}
-use Rattle.rules.specs.Expressions.{also, last, factor, product, bit, bitwise, term, sum, expression}
+use Rattle.rules.specs.Expressions.{Owner, call, structural, elements, closingOf}
+use Rattle.rules.specs.Expressions.{Bitwise, bitAnd, bitOr, bitXor, tokenOf, opOf}
+use Rattle.rules.specs.Expressions.{Pending, first, joined, bitwise, shift, takesUnary}
+use Rattle.rules.specs.Expressions.{binary, prefix, deref, nameAlone, owned, listEnd, exceeded, joinedTo, closed}
+use Rattle.rules.specs.Expressions.{separator, itemEnd, listItem, commaList, ampersand, ampersands, address}
+use Rattle.rules.specs.Expressions.{string, strings, typedInteger, stepEnd, elementEnd, member, after}
+use Rattle.rules.specs.Expressions.{nextFactor, nextTerm, nextBit, follows, factorEnd, termEnd}
+use Rattle.rules.specs.Expressions.{sizeOf, typeCast, coerced, singularEnd, step, steps, stepped, reference}
+use Rattle.rules.specs.Expressions.{advanced, pointer, field, itemOf, items as items', named, builtin, parenthesized}
+use Rattle.rules.specs.Expressions.{primary, prefixed, lengthOf, unary, singular, factor, product, term, sum}
+use Rattle.rules.specs.Expressions.{expression}
 use Rattle.rules.specs.Declarations.{colon, constant, memberItem, members, structure, struct, word}
 use Rattle.rules.specs.Declarations as Declarations
 use Rattle.rules.proofs.Forward.{Stop, Goes, Nonzero, Round, _then_, eased, pures, refuses, at-here, picks}
-use Rattle.rules.proofs.Forward.{knows, appends, items, closes, consumes, optionally, takes, peeks, tested}
-use Rattle.rules.proofs.Forward.{Cases, refused, other, _or_, taking, peeking, earlier, loops, bounded}
+use Rattle.rules.proofs.Forward.{appends, items, closes, consumes, optionally, takes, peeks, tested}
+use Rattle.rules.proofs.Forward.{Cases, refused, other, _or_, taking, peeking, earlier, strict, loops, bounded}
 
 module _ {row : Row} {n : ℕ} (stop : Stop row n) (size : n ≤ length (row .kinds)) where
   -- a token at least is taken
@@ -45,6 +52,10 @@ module _ {row : Row} {n : ℕ} (stop : Stop row n) (size : n ≤ length (row .ki
   -- a node appended last
   node : {c₀ c : ℕ} (kind load : ℕ) → c₀ < c → Goes n (append kind load) c (λ _ p. c₀ < p)
   node kind load h = eased (λ _ _ q. omega arith) (appends kind load)
+
+  -- a node appended last, of which no token was taken
+  last : {c₀ c : ℕ} (kind load : ℕ) → c₀ ≤ c → Goes n (append kind load) c (λ _ p. c₀ ≤ p)
+  last kind load h = eased (λ _ _ q. omega arith) (appends kind load)
 
   bracketed-moves : (kind load : ℕ) → Moves (bracketed columns row kind load)
   unfolding bracketed
@@ -103,125 +114,256 @@ module _ {row : Row} {n : ℕ} (stop : Stop row n) (size : n ≤ length (row .ki
       inner-type unused c then λ t p q.
       at-here _ (picks (ltb (c + 1) p) (appends _ _ then λ e p' q'. node _ _ (omega arith)) (pures q)))
 
-  pub binary-stays : (at op l r : ℕ) → Stays (binary columns row at op l r)
+  pub binary-stays : (at op l r : ℕ) → Stays (binary columns at op l r)
   unfolding binary
   binary-stays at op l r c =
       appends _ _ then λ _ p q.
       appends _ _ then λ _ p' q'.
-      eased (λ _ _ e. omega arith) (appends _ _)
+      last _ _ (omega arith)
 
-  pub joined-takes : {m : Rule Nodes ℕ} → Moves m → (op l : ℕ) → Takes (joined columns row m op l)
-  unfolding joined
-  joined-takes operand op l c h =
-      at-here _ (takes stop _ h (
-      operand (c + 1) then λ r p q.
-      beyond (omega arith) (binary-stays c op l r p)))
+  pub prefix-stays : (at op e : ℕ) → Stays (prefix columns at op e)
+  unfolding prefix
+  prefix-stays at op e c =
+      appends _ _ then λ _ p q.
+      last _ _ (omega arith)
 
-  -- a round of a loop, of which nothing more is known at its start
-  abbrev pub Rounds : {A B : Type 0} → (A → Rule Nodes (Step A B)) → Type 0
-  Rounds f = (a : _) (c : ℕ) → Goes n (f a) c (Round (λ _. Unit {0}) c)
+  pub deref-stays : (start depth name l : ℕ) → Stays (deref columns start depth name l)
+  unfolding deref
+  deref-stays start depth name l c =
+      appends _ _ then λ _ p1 q1.
+      appends _ _ then λ _ p2 q2.
+      appends _ _ then λ _ p3 q3.
+      last _ _ (omega arith)
 
-  module _ {m : Rule Nodes ℕ} (one : Moves m) (closing : ℕ)
-      (closes-by : Nonzero (refusalOf closing)) (not-end : Nonzero closing) where
-    pub item-list : Rounds (listItem columns row closing m)
-    unfolding listItem
-    item-list l c =
-        optionally stop _ not-end _ (λ h. pures (omega arith)) (
-        one c then λ t p q.
-        items (l .0) then λ m p' q'.
-        optionally stop _ refl _ (λ h. pures (omega arith, tt)) (
-        consumes stop _ closes-by then λ _ p'' q''.
-        pures (omega arith)))
+  pub name-stays : (name : ℕ) → Stays (nameAlone columns name)
+  unfolding nameAlone
+  name-stays name c = closes none then λ l p q. eased (λ _ _ e. omega arith) (deref-stays name 0 name l p)
 
-    pub comma-list : Stays (commaList columns row closing m)
-    unfolding commaList
-    comma-list c =
-        loops row (λ a c _. item-list a c) size _ c tt then λ l p q.
-        closes (l .0) then λ t p' q'.
-        pures (omega arith)
+  owned-stays : (owner : Owner) (m l : ℕ) → Stays (owned columns owner m l)
+  unfolding owned
+  owned-stays (call name builtin) m l c = appends _ _ then λ _ p q. last _ _ (omega arith)
+  owned-stays (structural name) m l c = last _ _ (omega arith)
+  owned-stays elements m l c = last _ _ (omega arith)
 
-  pub exceeded-refuses : {A : Type 0} {R : A → ℕ → Type 0} (start c : ℕ) → Goes n (exceeded columns row start) c R
+  pub list-end : (owner : Owner) (l : Option Ends × ℕ) → Stays (listEnd columns owner l)
+  unfolding listEnd
+  list-end owner l c =
+      closes (l .0) then λ t p q.
+      appends _ _ then λ s p1 q1.
+      eased (λ _ _ e. omega arith) (owned-stays owner (l .1) s p1)
+
+  pub exceeded-refuses : {A : Type 0} {R : A → ℕ → Type 0} (start c : ℕ) → Goes n (exceeded columns start) c R
   unfolding exceeded
   exceeded-refuses start c = at-here _ (refuses refl)
 
-  pub ampersand-round : (start : ℕ) → Rounds (ampersand columns row start)
+  pub joined-to : (p : Pending ℕ) (r : ℕ) → Stays (joinedTo columns p r)
+  unfolding joinedTo
+  joined-to first r c = pures (omega arith)
+  joined-to (joined l op at) r c = binary-stays at op l r c
+  joined-to (bitwise l bit at) r c = binary-stays at (opOf bit) l r c
+  joined-to (shift l op at) r c = binary-stays at op l r c
+
+  -- a round of a loop, which moves by k at least when it is the last
+  abbrev pub Rounds : {A B : Type 0} → ℕ → (A → Rule Nodes (Step A B)) → Type 0
+  Rounds k f = (a : _) (c : ℕ) → Goes n (f a) c (Round k c)
+
+  pub closed-moves : (closing kind e : ℕ) → Nonzero (refusalOf closing) → Moves (closed columns row closing kind e)
+  unfolding closed
+  closed-moves closing kind e z c = consumes stop _ z then λ _ p q. node _ _ (omega arith)
+
+  pub separator-round :
+      (closing : ℕ) → Nonzero (refusalOf closing) → (l : Option Ends × ℕ) (c : ℕ) →
+      Goes n (separator columns row closing l) c (Round 0 c)
+  unfolding separator
+  separator-round closing z l c =
+      optionally stop _ refl _ (λ h. pures (omega arith)) (
+      consumes stop _ z then λ _ p q.
+      pures (omega arith))
+
+  pub item-end :
+      (closing : ℕ) → Nonzero (refusalOf closing) → (l : Option Ends × ℕ) (t c : ℕ) →
+      Goes n (itemEnd columns row closing l t) c (Round 0 c)
+  unfolding itemEnd
+  item-end closing z l t c =
+      items (l .0) then λ m p q.
+      earlier 0 (omega arith) (separator-round closing z (m, l .1 + 1) p)
+
+  module _ {m : Rule Nodes ℕ} (one : Moves m) where
+    pub list-item : (closing : ℕ) → Nonzero (refusalOf closing) → Nonzero closing → Rounds 0 (listItem columns row closing m)
+    unfolding listItem
+    list-item closing z z' l c =
+        optionally stop _ z' _ (λ h. pures (omega arith)) (
+        one c then λ t p q.
+        earlier 0 (omega arith) (item-end closing z l t p))
+
+    closings : (owner : Owner) → Nonzero (refusalOf (closingOf owner)) × Nonzero (closingOf owner)
+    closings (call name builtin) = (refl, refl)
+    closings (structural name) = (refl, refl)
+    closings elements = (refl, refl)
+
+    pub comma-list : (owner : Owner) → Stays (commaList columns row owner m)
+    unfolding commaList
+    comma-list owner c =
+        loops 0 (list-item (closingOf owner) (closings owner .0) (closings owner .1)) row size _ c then λ l p q.
+        eased (λ _ _ e. omega arith) (list-end owner l p)
+
+  pub ampersand-round : (start : ℕ) → Rounds 0 (ampersand columns row start)
   unfolding ampersand
   ampersand-round start depth c =
       optionally stop _ refl _
-      (λ h. picks (ltb Limit.AddressDepth (depth + 1)) (exceeded-refuses start (c + 1)) (pures (omega arith, tt)))
+      (λ h. picks (ltb Limit.AddressDepth (depth + 1)) (exceeded-refuses start (c + 1)) (pures (omega arith)))
       (pures (omega arith))
 
   pub ampersands-stays : (start : ℕ) → Stays (ampersands columns row start)
   unfolding ampersands
-  ampersands-stays start c = loops row (λ a c _. ampersand-round start a c) size _ c tt
+  ampersands-stays start c = eased (λ _ _ e. omega arith) (loops 0 (ampersand-round start) row size _ c)
 
-  pub deref-stays : {l : Rule Nodes ℕ} → Stays l → (start depth name : ℕ) → Stays (deref columns row l start depth name)
-  unfolding deref
-  deref-stays steps start depth name c =
-      steps c then λ l p q.
-      appends _ _ then λ _ p1 q1.
-      appends _ _ then λ _ p2 q2.
-      appends _ _ then λ _ p3 q3.
-      eased (λ _ _ e. omega arith) (appends _ _)
+  pub address-moves : (start : ℕ) → Moves (address columns row start)
+  unfolding address
+  address-moves start c =
+      ampersands-stays start c then λ d p q.
+      at-here _ (
+      consumes stop _ refl then λ _ p1 q1.
+      pures (omega arith))
 
-  pub string-round : Rounds (string columns row)
+  pub string-round : Rounds 0 (string columns row)
   unfolding string
-  string-round _ c = at-here _ (optionally stop _ refl _ (λ h. pures (omega arith, tt)) (pures (omega arith)))
+  string-round _ c = at-here _ (optionally stop _ refl _ (λ h. pures (omega arith)) (pures (omega arith)))
 
   pub strings-stays : (start : ℕ) → Stays (strings columns row start)
   unfolding strings
   strings-stays start c =
       optionally stop _ refl _
-      (λ h.
-      loops row (λ a c _. string-round a c) size _ (c + 1) tt then λ end p q.
-      appends _ _ then λ _ p1 q1.
-      eased (λ _ _ e. omega arith) (appends _ _))
-      (eased (λ _ _ e. omega arith) (appends _ _))
+      (λ h. loops 0 string-round row size _ (c + 1) then λ end p q. appends _ _ then λ _ p1 q1. last _ _ (omega arith))
+      (last _ _ (omega arith))
 
-  typed-integer : (at : ℕ) → Stays (typedInteger columns row at)
+  pub typed-integer : (at : ℕ) → Stays (typedInteger columns row at)
   unfolding typedInteger
-  typed-integer at c = appends _ _ then λ _ p q. eased (λ _ _ e. omega arith) (appends _ _)
+  typed-integer at c = appends _ _ then λ _ p q. last _ _ (omega arith)
+
+  step-end : (l : Option Ends) (t c₀ c : ℕ) → c₀ < c → Goes n (stepEnd columns row l t) c (Round 0 c₀)
+  unfolding stepEnd
+  step-end l t c₀ c h = items l then λ m p q. pures (omega arith)
+
+  pub element-end : (l : Option Ends) (e c : ℕ) → Goes n (elementEnd columns row l e) c (Round 0 c)
+  unfolding elementEnd
+  element-end l e c = closed-moves _ _ e refl c then λ t p q. step-end l t c p q
+
+  pub member-round : (l : Option Ends) (c : ℕ) → Goes n (member columns row l) c (Round 0 c)
+  unfolding member
+  member-round l c =
+      at-here _ (
+      consumes stop _ refl then λ _ p1 q1.
+      appends _ _ then λ t p2 q2.
+      step-end l t c p2 (omega arith))
+
+  after-takes : (p : Pending ℕ) (k c : ℕ) → c < n → Goes n (after columns row p) c (Round k c)
+  unfolding after
+  after-takes p k c h = takes stop _ h (pures (omega arith))
+
+  pub next-factor : (e c : ℕ) → Goes n (nextFactor columns row e) c (Round 0 c)
+  unfolding nextFactor
+  next-factor e c =
+      at-here _ (peeking stop (
+      after-takes _ 0 c or
+      after-takes _ 0 c or
+      after-takes _ 0 c or
+      other refl (pures (omega arith))))
+
+  pub next-term : (e c : ℕ) → Goes n (nextTerm columns row e) c (Round 0 c)
+  unfolding nextTerm
+  next-term e c =
+      at-here _ (peeking stop (
+      after-takes _ 0 c or
+      after-takes _ 0 c or
+      after-takes _ 0 c or
+      after-takes _ 0 c or
+      after-takes _ 0 c or
+      after-takes _ 0 c or
+      after-takes _ 0 c or
+      other refl (pures (omega arith))))
+
+  bit-token : (bit : Bitwise) → Nonzero (tokenOf bit)
+  bit-token bitAnd = refl
+  bit-token bitOr = refl
+  bit-token bitXor = refl
+
+  pub next-bit : (bit : Bitwise) (e c : ℕ) → Goes n (nextBit columns row bit e) c (Round 0 c)
+  unfolding nextBit
+  next-bit bit e c =
+      at-here _ (peeks stop _ (tested stop (tokenOf bit) (bit-token bit) (after-takes _ 0 c) (pures (omega arith))))
+
+  follows-round : (p : Pending ℕ) (e c : ℕ) → Goes n (follows columns row p e) c (Round 0 c)
+  unfolding follows
+  follows-round first e c = next-term e c
+  follows-round (joined l op at) e c = next-term e c
+  follows-round (bitwise l bit at) e c = next-bit bit e c
+  follows-round (shift l op at) e c = pures (omega arith)
+
+  pub factor-end : (p : Pending ℕ) (r c : ℕ) → Goes n (factorEnd columns row p r) c (Round 0 c)
+  unfolding factorEnd
+  factor-end p r c = joined-to p r c then λ e p1 q. earlier 0 (omega arith) (next-factor e p1)
+
+  pub term-end : (p : Pending ℕ) (r c : ℕ) → Goes n (termEnd columns row p r) c (Round 0 c)
+  unfolding termEnd
+  term-end p r c = joined-to p r c then λ e p1 q. earlier 0 (omega arith) (follows-round p e p1)
+
+  module _ {ty : Rule Nodes ℕ} (y : Moves ty) where
+    pub size-takes : Takes (sizeOf columns row ty)
+    unfolding sizeOf
+    size-takes c h = takes stop _ h (y (c + 1) then λ t p q. further (omega arith) (closed-moves _ _ t refl p))
+
+    pub cast-moves : (e : ℕ) → Moves (typeCast columns row ty e)
+    unfolding typeCast
+    cast-moves e c =
+        at-here _ (
+        y c then λ t p q.
+        appends _ _ then λ _ p1 q1.
+        node _ _ (omega arith))
+
+    pub coerced-round : Rounds 0 (coerced columns row ty)
+    unfolding coerced
+    coerced-round e c =
+        optionally stop _ refl _
+        (λ h. cast-moves e (c + 1) then λ t p q. pures (omega arith))
+        (pures (omega arith))
+
+    pub singular-end : (cast : Bool) (at e : ℕ) → Stays (singularEnd columns row ty cast at e)
+    unfolding singularEnd
+    singular-end true at e c =
+        appends _ _ then λ d p q.
+        eased (λ _ _ x. omega arith) (loops 0 coerced-round row size d p)
+    singular-end false at e c =
+        pures {R = λ _ p. p ≡ c} refl then λ d p q.
+        eased (λ _ _ x. omega arith) (loops 0 coerced-round row size d p)
 
   module _ {expr : Rule Nodes ℕ} (x : Moves expr) where
-    pub element-round : (l : Option Ends) (c : ℕ) → Goes n (element columns row expr l) c (Round (λ _. Unit {0}) c)
-    unfolding element
-    element-round l c =
-        x c then λ e p q.
-        consumes stop _ refl then λ _ p1 q1.
-        appends _ _ then λ t p2 q2.
-        items l then λ m p3 q3.
-        pures (omega arith, tt)
-
-    pub member-round : (l : Option Ends) (c : ℕ) → Goes n (member columns row expr l) c (Round (λ _. Unit {0}) c)
-    unfolding member
-    member-round l c =
-        at-here _ (
-        consumes stop _ refl then λ _ p1 q1.
-        appends _ _ then λ t p2 q2.
-        items l then λ m p3 q3.
-        pures (omega arith, tt))
-
-    pub step-round : Rounds (step columns row expr)
+    pub step-round : Rounds 0 (step columns row expr)
     unfolding step
     step-round l c =
-        optionally stop _ refl _ (λ h. earlier (omega arith) (element-round l (c + 1))) (
-        optionally stop _ refl _ (λ h. earlier (omega arith) (member-round l (c + 1))) (pures (omega arith)))
+        optionally stop _ refl _
+        (λ h. x (c + 1) then λ e p q. earlier 0 (omega arith) (element-end l e p))
+        (optionally stop _ refl _ (λ h. earlier 0 (omega arith) (member-round l (c + 1))) (pures (omega arith)))
 
     pub steps-stays : Stays (steps columns row expr)
     unfolding steps
     steps-stays c =
         at-here _ (
-        bounded step-round (λ p _. exceeded-refuses c p) Limit.ReferenceDepth _ c then λ l p q.
+        bounded 0 step-round (λ p _. exceeded-refuses c p) Limit.ReferenceDepth _ c then λ l p q.
         eased (λ _ _ e. omega arith) (closes l))
+
+    pub stepped-stays : (start depth name : ℕ) → Stays (stepped columns row expr start depth name)
+    unfolding stepped
+    stepped-stays start depth name c =
+        steps-stays c then λ l p q.
+        eased (λ _ _ e. omega arith) (deref-stays start depth name l p)
 
     pub reference-moves : Moves (reference columns row expr)
     unfolding reference
     reference-moves c =
         at-here _ (
-        ampersands-stays c c then λ d p q.
-        at-here _ (
-        consumes stop _ refl then λ _ p1 q1.
-        beyond (omega arith) (deref-stays steps-stays c 0 p p1)))
+        address-moves c c then λ a p q.
+        beyond q (stepped-stays c 0 (a .1) p))
 
     pub advanced-stays : (l : ℕ) → Stays (advanced columns row expr l)
     unfolding advanced
@@ -233,22 +375,9 @@ module _ {row : Row} {n : ℕ} (stop : Stop row n) (size : n ≤ length (row .ki
     pub pointer-moves : (start : ℕ) → Moves (pointer columns row expr start)
     unfolding pointer
     pointer-moves start c =
-        ampersands-stays start c then λ depth p q.
-        at-here _ (
-        consumes stop _ refl then λ _ p1 q1.
-        deref-stays steps-stays start depth p p1 then λ e p2 q2.
-        beyond (omega arith) (advanced-stays e p2))
-
-    pub call-stays : (name builtin : ℕ) → Stays (call columns row expr name builtin)
-    unfolding call
-    call-stays name builtin c =
-        comma-list x _ refl refl c then λ l p q.
-        appends _ _ then λ _ p1 q1.
-        appends _ _ then λ _ p2 q2.
-        eased (λ _ _ e. omega arith) (appends _ _)
-
-    own-name : Stays (pushEndOfList none)
-    own-name c = eased (λ _ _ e. omega arith) (closes none)
+        address-moves start c then λ a p q.
+        stepped-stays start (a .0) (a .1) p then λ e p1 q1.
+        beyond (omega arith) (advanced-stays e p1)
 
     pub field-moves : Moves (field columns row expr)
     unfolding field
@@ -257,43 +386,32 @@ module _ {row : Row} {n : ℕ} (stop : Stop row n) (size : n ≤ length (row .ki
         consumes stop _ refl then λ _ p q.
         optionally stop _ refl _
         (λ h. x (p + 1) then λ e p1 q1. node _ _ (omega arith))
-        (deref-stays own-name c 0 c p then λ e p1 q1. node _ _ (omega arith)))
+        (name-stays c p then λ e p1 q1. node _ _ (omega arith)))
 
-    pub structural-stays : (name : ℕ) → Stays (structural columns row expr name)
-    unfolding structural
-    structural-stays name c =
-        comma-list field-moves _ refl refl c then λ l p q.
-        appends _ _ then λ _ p1 q1.
-        eased (λ _ _ e. omega arith) (appends _ _)
+    pub items-stays : (owner : Owner) → Stays (items' columns row expr owner)
+    unfolding items'
+    items-stays (call name builtin) = comma-list x (call name builtin)
+    items-stays (structural name) = comma-list field-moves (structural name)
+    items-stays elements = comma-list x elements
 
     pub named-stays : (name : ℕ) → Stays (named columns row expr name)
     unfolding named
     named-stays name c =
         optionally stop _ refl _
-        (λ h. eased (λ _ _ e. omega arith) (call-stays name 0 (c + 1)))
+        (λ h. eased (λ _ _ e. omega arith) (items-stays _ (c + 1)))
         (optionally stop _ refl _
-        (λ h. eased (λ _ _ e. omega arith) (structural-stays name (c + 1)))
-        (deref-stays steps-stays name 0 name c))
+        (λ h. eased (λ _ _ e. omega arith) (items-stays _ (c + 1)))
+        (stepped-stays name 0 name c))
 
     pub builtin-moves : (name : ℕ) → Moves (builtin columns row expr name)
     unfolding builtin
     builtin-moves name c =
         consumes stop _ refl then λ _ p q.
-        beyond (omega arith) (call-stays name 1 p)
-
-    pub elements-stays : Stays (elements columns row expr)
-    unfolding elements
-    elements-stays c =
-        comma-list x _ refl refl c then λ l p q.
-        appends _ _ then λ _ p1 q1.
-        eased (λ _ _ e. omega arith) (appends _ _)
+        beyond (omega arith) (items-stays _ p)
 
     pub parenthesized-moves : Moves (parenthesized columns row expr)
     unfolding parenthesized
-    parenthesized-moves c =
-        x c then λ e p q.
-        consumes stop _ refl then λ _ p1 q1.
-        node _ _ (omega arith)
+    parenthesized-moves c = x c then λ e p q. further (omega arith) (closed-moves _ _ e refl p)
 
     pub primary-moves : Moves (primary columns row expr)
     unfolding primary
@@ -308,7 +426,7 @@ module _ {row : Row} {n : ℕ} (stop : Stop row n) (size : n ≤ length (row .ki
         (λ h. further (omega arith) (pointer-moves c (c + 1))) or
         (λ h. beyond (omega arith) (named-stays c (c + 1))) or
         (λ h. further (omega arith) (builtin-moves c (c + 1))) or
-        (λ h. beyond (omega arith) (elements-stays (c + 1))) or
+        (λ h. beyond (omega arith) (items-stays _ (c + 1))) or
         (λ h. further (omega arith) (parenthesized-moves (c + 1))) or
         refused refl))
 
@@ -317,118 +435,53 @@ module _ {row : Row} {n : ℕ} (stop : Stop row n) (size : n ≤ length (row .ki
     prefixed-takes op c h =
         at-here _ (takes stop _ h (
         primary-moves (c + 1) then λ e p q.
-        appends _ _ then λ _ p1 q1.
-        node _ _ (omega arith)))
+        beyond (omega arith) (prefix-stays c op e p)))
 
     pub length-takes : Takes (lengthOf columns row expr)
     unfolding lengthOf
     length-takes c h =
-        takes stop _ h (
-        reference-moves (c + 1) then λ t p q.
-        consumes stop _ refl then λ _ p1 q1.
-        node _ _ (omega arith))
+        takes stop _ h (reference-moves (c + 1) then λ t p q. further (omega arith) (closed-moves _ _ t refl p))
 
     module _ {ty : Rule Nodes ℕ} (y : Moves ty) where
-      pub size-takes : Takes (sizeOf columns row expr ty)
-      unfolding sizeOf
-      size-takes c h =
-          takes stop _ h (
-          y (c + 1) then λ t p q.
-          consumes stop _ refl then λ _ p1 q1.
-          node _ _ (omega arith))
-
       pub unary-moves : Moves (unary columns row expr ty)
       unfolding unary
       unary-moves c =
           peeking stop (
-          size-takes c or
+          size-takes y c or
           length-takes c or
           prefixed-takes _ c or
           prefixed-takes _ c or
           other refl (primary-moves c))
 
-      pub coerced-round : Rounds (coerced columns row expr ty)
-      unfolding coerced
-      coerced-round e c =
-          optionally stop _ refl _
-          (λ h. at-here _ (
-          y (c + 1) then λ t p q.
-          appends _ _ then λ _ p1 q1.
-          appends _ _ then λ _ p2 q2.
-          pures (omega arith, tt)))
-          (pures (omega arith))
-
       pub singular-moves : Moves (singular columns row expr ty)
       unfolding singular
       singular-moves c =
           at-here _ (optionally stop _ refl _
-          (λ h.
-          unary-moves (c + 1) then λ e p q.
-          appends _ _ then λ d p1 q1.
-          beyond (omega arith) (loops row (λ a c _. coerced-round a c) size d p1 tt))
-          (unary-moves c then λ e p q.
-          pures {R = λ _ p1. p1 ≡ p} refl then λ d p1 q1.
-          beyond (omega arith) (loops row (λ a c _. coerced-round a c) size d p1 tt)))
+          (λ h. unary-moves (c + 1) then λ e p q. beyond (omega arith) (singular-end y true c e p))
+          (unary-moves c then λ e p q. beyond (omega arith) (singular-end y false c e p)))
 
-      module _ {m : Rule Nodes ℕ} (operand : Moves m) (op l c : ℕ) (h : c < n) where
-        pub also-round : Goes n (also columns row expr ty m op l) c (Round (λ _. Unit {0}) c)
-        unfolding also
-        also-round = joined-takes operand op l c h then λ b p q. pures (omega arith, tt)
+      -- an operand that moved, and the operator after it
+      round : {A B : Type 0} {m : Rule Nodes (Step A B)} {c₀ c : ℕ} → c₀ < c → Goes n m c (Round 0 c) → Goes n m c (Round 1 c₀)
+      round h = eased (λ r p q. strict _ _ r p h q)
 
-        pub last-round : Goes n (last columns row expr ty m op l) c (Round (λ _. Unit {0}) c)
-        unfolding last
-        last-round = joined-takes operand op l c h then λ b p q. pures (omega arith)
-
-      pub factor-round : Rounds (factor columns row expr ty)
+      pub factor-round : Rounds 1 (factor columns row expr ty)
       unfolding factor
-      factor-round e c =
-          peeking stop (
-          also-round singular-moves _ e c or
-          also-round singular-moves _ e c or
-          also-round singular-moves _ e c or
-          other refl (pures (omega arith)))
+      factor-round p c = singular-moves c then λ r p1 q. round q (factor-end p r p1)
 
       pub product-moves : Moves (product columns row expr ty)
       unfolding product
-      product-moves c =
-          singular-moves c then λ e p q.
-          beyond (omega arith) (loops row (λ a c _. factor-round a c) size e p tt)
+      product-moves c = eased (λ _ _ e. omega arith) (loops 1 factor-round row size _ c)
 
-      -- a round of bits begins at the operator
-      pub bit-round :
-          (token op : ℕ) → Nonzero token → (l c : ℕ) → c < n →
-          Goes n (bit columns row expr ty token op l) c (Round (λ p. p < n) c)
-      unfolding bit
-      bit-round token op z l c h =
-          joined-takes unary-moves op l c h then λ b p q.
-          peeks stop _ (tested stop token z (λ h'. pures (omega arith, h')) (pures (omega arith)))
+      pub operand-moves : (bare : Bool) → Moves (pick bare (unary columns row expr ty) (product columns row expr ty))
+      operand-moves bare c = picks bare (unary-moves c) (product-moves c)
 
-      pub bitwise-round :
-          (token op : ℕ) → Nonzero token → (l c : ℕ) → c < n →
-          Goes n (bitwise columns row expr ty token op l) c (Round (λ _. Unit {0}) c)
-      unfolding bitwise
-      bitwise-round token op z l c h =
-          loops row (bit-round token op z) size l c h then λ b p q.
-          pures (omega arith)
-
-      pub term-round : Rounds (term columns row expr ty)
+      pub term-round : Rounds 1 (term columns row expr ty)
       unfolding term
-      term-round e c =
-          peeking stop (
-          bitwise-round _ _ refl e c or
-          bitwise-round _ _ refl e c or
-          bitwise-round _ _ refl e c or
-          last-round unary-moves _ e c or
-          last-round unary-moves _ e c or
-          also-round product-moves _ e c or
-          also-round product-moves _ e c or
-          other refl (pures (omega arith)))
+      term-round p c = operand-moves (takesUnary p) c then λ r p1 q. round q (term-end p r p1)
 
       pub sum-moves : Moves (sum columns row expr ty)
       unfolding sum
-      sum-moves c =
-          product-moves c then λ e p q.
-          beyond (omega arith) (loops row (λ a c _. term-round a c) size e p tt)
+      sum-moves c = eased (λ _ _ e. omega arith) (loops 1 term-round row size _ c)
 
   pub expression-moves : (unused : ℕ) → Moves (expression columns row unused)
   unfolding expression
@@ -463,30 +516,30 @@ module _ {row : Row} {n : ℕ} (stop : Stop row n) (size : n ≤ length (row .ki
       type-moves unused p1 then λ t p2 q2.
       node _ _ (omega arith))
 
-  pub member-item : (unused : ℕ) → Rounds (memberItem columns row unused)
+  pub member-item : (unused : ℕ) → Rounds 0 (memberItem columns row unused)
   unfolding memberItem
   member-item unused l c =
       optionally stop _ refl _ (λ h. pures (omega arith)) (
       member-moves unused c then λ t p q.
       consumes stop _ refl then λ _ p1 q1.
       items l then λ m p2 q2.
-      pures (omega arith, tt))
+      pures (omega arith))
 
   pub members-moves : (unused : ℕ) → Moves (members columns row unused)
   unfolding members
   members-moves unused c =
       consumes stop _ refl then λ _ p q.
-      loops row (λ a c _. member-item unused a c) size _ p tt then λ l p1 q1.
+      loops 0 (member-item unused) row size _ p then λ l p1 q1.
       eased (λ _ _ e. omega arith) (closes l)
 
-  pub structure-stays : (start flags size name list : ℕ) → Stays (structure columns row start flags size name list)
+  pub structure-stays : (start flags size name list : ℕ) → Stays (structure columns start flags size name list)
   unfolding structure
   structure-stays start flags size name list c =
       appends _ _ then λ _ p q.
       appends _ _ then λ _ p1 q1.
       appends _ _ then λ _ p2 q2.
       appends _ _ then λ _ p3 q3.
-      eased (λ _ _ e. omega arith) (appends _ _)
+      last _ _ (omega arith)
 
   pub struct-moves : (unused start flags : ℕ) → Moves (struct columns row unused start flags)
   unfolding struct

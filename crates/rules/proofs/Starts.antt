@@ -8,9 +8,10 @@ use Rattle.rules.specs.Codes.{pick, refusalOf}
 use Rattle.rules.specs.Codes.BaseToken as BaseToken
 use Rattle.rules.specs.Reading.{Rule, Result, ok, no, next, _>>=_, refuse, here}
 use Rattle.rules.specs.Reading.{Row, kindOf, peek, take, consume, optional, choose}
+use Rattle.rules.specs.Reading.{Step, repeat, loop}
 use Rattle.rules.specs.Columns.{Nodes, columns}
 use Rattle.rules.specs.Types.{innerFrom, innerType, type}
-use Rattle.rules.specs.Expressions.{primary, unary, singular, product, sum, expression}
+use Rattle.rules.specs.Expressions.{primary, unary, singular, factor, product, term, sum, expression}
 use Rattle.rules.specs.Declarations.{constant, struct, word}
 use Rattle.rules.proofs.Forward.{Nonzero}
 
@@ -34,6 +35,12 @@ at-once {A} {B} {m} f {c} h = record { run = λ s. go (m c s .result) (m c s .cu
 at-here : {A : Type 0} (f : ℕ → Rule Nodes A) {c : ℕ} → Refuses (f c) c → Refuses (here >>= f) c
 unfolding _>>=_ here
 at-here f h = record { run = h .run }
+
+-- the first round of a loop
+loops :
+    {A B : Type 0} (row : Row) (f : A → Rule Nodes (Step A B)) (a : A) {c : ℕ} → Refuses (f a) c → Refuses (loop row f a) c
+unfolding loop repeat
+loops row f a h = at-once _ h
 
 module _ (row : Row) {c : ℕ} (e : kindOf row c ≡ BaseToken.EndOfSource) where
   -- a token of another kind is expected
@@ -76,8 +83,8 @@ module _ (row : Row) {c : ℕ} (e : kindOf row c ≡ BaseToken.EndOfSource) wher
     unaries = peeking _ primaries
 
     sums : Refuses (sum columns row expr ty) c
-    unfolding sum product singular
-    sums = at-once _ (at-once _ (at-here _ (optionally _ refl _ (at-once _ unaries))))
+    unfolding sum term product factor singular
+    sums = loops _ _ _ (at-once _ (loops _ _ _ (at-once _ (at-here _ (optionally _ refl _ (at-once _ unaries))))))
 
   pub expressions : (unused : ℕ) → Refuses (expression columns row unused) c
   unfolding expression

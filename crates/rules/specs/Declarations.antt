@@ -26,6 +26,15 @@ sizeOfWord kind = entry kind
     ∷ [])
     16
 
+-- the nodes of a struct or word, after its members' list
+unfoldable pub structure : (B : Builder) → ℕ → ℕ → ℕ → ℕ → B .N → Rule (B .S) (B .N)
+structure B start flags size name list = do
+  s ← B .link ParseNode.List list
+  z ← B .node ParseNode.StructuralType size []
+  n ← B .node ParseNode.Identifier name []
+  f ← B .node ParseNode.DeclarationFlags flags []
+  B .node ParseNode.StructureDeclaration start (f ∷ n ∷ z ∷ s ∷ [])
+
 module _ (B : Builder) (row : Row) where
   open Builder B using (S, N, L, node, link, begin, item, close)
 
@@ -77,14 +86,6 @@ module _ (B : Builder) (row : Row) where
     l ← loop row (memberItem unused) begin
     close l
 
-  unfoldable pub structure : ℕ → ℕ → ℕ → ℕ → N → Rule S N
-  structure start flags size name list = do
-    s ← link ParseNode.List list
-    z ← node ParseNode.StructuralType size []
-    n ← node ParseNode.Identifier name []
-    f ← node ParseNode.DeclarationFlags flags []
-    node ParseNode.StructureDeclaration start (f ∷ n ∷ z ∷ s ∷ [])
-
   -- "A struct is a name with a semicolon or members in braces"
   unfoldable pub struct : ℕ → ℕ → ℕ → Rule S N
   struct unused start flags = do
@@ -92,7 +93,7 @@ module _ (B : Builder) (row : Row) where
     _ ← consume row BaseToken.Identifier
     semicolon ← optional row BaseToken.Semicolon
     l ← pick semicolon (close begin) (members unused)
-    structure start (pick semicolon (opaque flags) flags) 0 name l
+    structure B start (pick semicolon (opaque flags) flags) 0 name l
 
   -- "a word always has members"
   unfoldable pub word : ℕ → ℕ → ℕ → ℕ → Rule S N
@@ -100,4 +101,4 @@ module _ (B : Builder) (row : Row) where
     name ← here
     _ ← consume row BaseToken.Identifier
     l ← members unused
-    structure start flags (sizeOfWord kind) name l
+    structure B start flags (sizeOfWord kind) name l
