@@ -54,6 +54,11 @@ pub record As {A R : Type 0} (F : Form A R) (m : Rule Nodes A) (c : ℕ) (s : No
 abbrev pub Gives : Rule Nodes ℕ → ℕ → Nodes → Parsed → List ℕ → List ℕ → Type 0
 Gives = As parsed
 
+-- The same of a reader that reads no value type: whatever these are.
+pub record Untyped {A R : Type 0} (F : Form A R) (m : Row → Rule Nodes A) (kinds : List ℕ) (c : ℕ) (s : Nodes) (r : R)
+    (ks ls : List ℕ) : Type 0 where
+  pub run : (types : List ℕ) → As F (m (row kinds types)) c s r ks ls
+
 -- The same of a reader that appends nothing and reads no value type: whatever these and the columns are.
 pub record Quiet {A R : Type 0} (F : Form A R) (m : Row → Rule Nodes A) (kinds : List ℕ) (c count : ℕ) (r : R) : Type 0 where
   pub run : (types ks ls : List ℕ) → As F (m (row kinds types)) c (nodes ks ls count) r ks ls

@@ -20,7 +20,8 @@ use Rattle.rules.specs.Expressions.{separator, itemEnd, listItem, commaL
 use Rattle.rules.specs.Expressions.{string, strings, typedInteger, stepEnd, elementEnd, member, after}
 use Rattle.rules.specs.Expressions.{nextFactor, nextTerm, nextBit, follows, factorEnd, termEnd}
 use Rattle.rules.specs.Expressions.{sizeOf, typeCast, coerced, singularEnd, step, steps, stepped, reference}
-use Rattle.rules.specs.Expressions.{advanced, pointer, field, itemOf, items as items', named, builtin, parenthesized}
+use Rattle.rules.specs.Expressions.{advanced, pointer, field, itemOf, items as items', named, builtin}
+use Rattle.rules.specs.Expressions.{parenthesized}
 use Rattle.rules.specs.Expressions.{primary, prefixed, lengthOf, unary, singular, factor, product, term, sum}
 use Rattle.rules.specs.Expressions.{expression}
 use Rattle.rules.specs.Declarations.{colon, constant, memberItem, members, structure, struct, word}
@@ -189,7 +190,8 @@ module _ {row : Row} {n : ℕ} (stop : Stop row n) (size : n ≤ length (row .ki
       earlier 0 (omega arith) (separator-round closing z (m, l .1 + 1) p)
 
   module _ {m : Rule Nodes ℕ} (one : Moves m) where
-    pub list-item : (closing : ℕ) → Nonzero (refusalOf closing) → Nonzero closing → Rounds 0 (listItem columns row closing m)
+    pub list-item :
+        (closing : ℕ) → Nonzero (refusalOf closing) → Nonzero closing → Rounds 0 (listItem columns row closing m)
     unfolding listItem
     list-item closing z z' l c =
         optionally stop _ z' _ (λ h. pures (omega arith)) (
@@ -461,7 +463,9 @@ module _ {row : Row} {n : ℕ} (stop : Stop row n) (size : n ≤ length (row .ki
           (unary-moves c then λ e p q. beyond (omega arith) (singular-end y false c e p)))
 
       -- an operand that moved, and the operator after it
-      round : {A B : Type 0} {m : Rule Nodes (Step A B)} {c₀ c : ℕ} → c₀ < c → Goes n m c (Round 0 c) → Goes n m c (Round 1 c₀)
+      round :
+          {A B : Type 0} {m : Rule Nodes (Step A B)} {c₀ c : ℕ} → c₀ < c → Goes n m c (Round 0 c) →
+          Goes n m c (Round 1 c₀)
       round h = eased (λ r p q. strict _ _ r p h q)
 
       pub factor-round : Rounds 1 (factor columns row expr ty)

@@ -38,7 +38,8 @@ at-here f h = record { run = h .run }
 
 -- the first round of a loop
 loops :
-    {A B : Type 0} (row : Row) (f : A → Rule Nodes (Step A B)) (a : A) {c : ℕ} → Refuses (f a) c → Refuses (loop row f a) c
+    {A B : Type 0} (row : Row) (f : A → Rule Nodes (Step A B)) (a : A) {c : ℕ} → Refuses (f a) c →
+    Refuses (loop row f a) c
 unfolding loop repeat
 loops row f a h = at-once _ h
 

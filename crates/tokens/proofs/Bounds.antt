@@ -12,8 +12,9 @@ use Rattle.codes.specs.Answer.{Quiet, Sized, row, nodes}
 use Rattle.codes.proofs.Onto.{sized-after, came-read}
 use Rattle.tokens.specs.declared.Consumed.{Consumed}
 use Rattle.tokens.specs.declared.Consumed.the-variants.{Next}
-use Rattle.tokens.specs.Answer.{kindIn, consumed, consuming}
-use Rattle.tokens.proofs.Laws.{holding-consumed}
+use Rattle.tokens.specs.declared.Optional.{Optional}
+use Rattle.tokens.specs.Answer.{kindIn, consumed, consuming, Optionally}
+use Rattle.tokens.proofs.Laws.{holding-consumed, not-found, found-next}
 use Rattle.rules.specs.Codes.{pick, refusalOf}
 use Rattle.rules.specs.Reading.{Outcome, Result, ok, no, consume}
 use Rattle.rules.specs.Columns.{Nodes}
@@ -55,3 +56,26 @@ module _ {tk : List ℕ} {c k : ℕ} (key : ℕ) {o : Consumed} (g : Quiet consu
   -- no node is appended
   pub same-count : j ≡ k
   same-count = passed .1
+
+-- a token that may stand here is passed
+optional-at : {tk : List ℕ} {key c : ℕ} {o : Optional} → Optionally tk key c o → Nonzero key → c ≤ length tk → o .cursor .0 ≤ length tk
+optional-at {tk} {key} {c} {o} g n b = go (o .found) refl
+  where
+    go : (f : Bool) → o .found ≡ f → o .cursor .0 ≤ length tk
+    go true e =
+        let (p, q) = found-next g e in
+        let h : c < length tk = in-row tk c (kindIn tk c) key refl q n in
+        omega arith
+    go false e = let p = not-found g e in omega arith
+
+pub past-optional :
+    {tk tv ns ls : List ℕ} {key c k : ℕ} {o : Optional} → Optionally tk key c o → Nonzero key →
+    Sized tk tv ns ls c k → Sized tk tv ns ls (o .cursor .0) k
+past-optional g n z = record {
+  types = z .types;
+  tokens = z .tokens;
+  at = optional-at g n (z .at);
+  loads = z .loads;
+  slots = z .slots;
+  used = z .used;
+}

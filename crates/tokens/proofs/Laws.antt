@@ -6,7 +6,7 @@ use Prim.Native.Nat.{ℕ, _+_, _<_}
 use native.Mathlib.Omega.{arith}
 use lib.ListN.{length}
 use lib.Dec.{eqb}
-use borrow.Author.Tests.{eq-eqb, ne-eqb}
+use borrow.Author.Tests.{eq-eqb, ne-eqb, eqb-true}
 use Rattle.rules.specs.Codes.{refusalOf}
 use Rattle.rules.specs.Reading.{Rule, Row, ok, no, kindOf, pure, refuse, _>>=_, consume, optional}
 use Rattle.rules.specs.Columns.{Nodes}
@@ -32,14 +32,17 @@ module _ (ks : List ℕ) (k t c n : ℕ) (peeked : t ≡ kindIn ks c) where
   unfolding consume consuming
   wrong h x q = record { run = λ vs ns ls. rw q (declines (record { same = rw (ne-eqb _ _ (λ e. h (peeked ∙ e))) refl })) }
 
-module _ (ks vs : List ℕ) (k t c : ℕ) (peeked : t ≡ kindIn ks c) where
-  pub found : t ≡ k → Optionally (optional (row ks vs) k c tt) (record { found = true; cursor = token (c + 1) })
+module _ (ks : List ℕ) (k t c : ℕ) (peeked : t ≡ kindIn ks c) where
+  pub found : t ≡ k → Optionally ks k c (record { found = true; cursor = token (c + 1) })
   unfolding optional
-  found e = rw (eq-eqb _ _ (sym peeked ∙ e)) (record { found = refl; cursor = refl })
+  found e = record { found = rw (eq-eqb _ _ (sym peeked ∙ e)) refl; cursor = rw (eq-eqb _ _ (sym peeked ∙ e)) refl }
 
-  pub missing : (t ≡ k → ⊥) → {p : TokenId} → p .0 ≡ c → Optionally (optional (row ks vs) k c tt) (record { found = false; cursor = p })
+  pub missing : (t ≡ k → ⊥) → {p : TokenId} → p .0 ≡ c → Optionally ks k c (record { found = false; cursor = p })
   unfolding optional
-  missing h q = rw (ne-eqb _ _ (λ e. h (peeked ∙ e))) (record { found = refl; cursor = q })
+  missing h q = record {
+    found = rw (ne-eqb _ _ (λ e. h (peeked ∙ e))) refl;
+    cursor = rw (ne-eqb _ _ (λ e. h (peeked ∙ e))) q;
+  }
 
 pub holding-consumed : Holding consumed
 holding-consumed = record {
@@ -50,3 +53,22 @@ holding-consumed = record {
   };
   holds = λ a c k r e. let z : _≡_ {A = ℕ} 0 1 = cc in omega arith;
 }
+
+-- what an optional token reads, for any value types
+module _ {tk : List ℕ} {key c : ℕ} {o : Optional} (g : Optionally tk key c o) where
+  is-found : o .found ≡ eqb (kindIn tk c) key
+  unfolding optional
+  is-found = let e : ok (o .found) ≡ ok (eqb (kindIn tk c) key) = g .found in cc
+
+  pub optioned : (tv : List ℕ) {s : Nodes} → Onto (optional (row tk tv) key) c s (pure (o .found)) (o .cursor .0) s
+  unfolding optional
+  optioned tv = record { same = rw (is-found, g .cursor) refl }
+
+  -- the cursor after it
+  pub not-found : o .found ≡ false → o .cursor .0 ≡ c
+  unfolding optional
+  not-found e = g .cursor ∙ rw (sym is-found ∙ e) refl
+
+  pub found-next : o .found ≡ true → (o .cursor .0 ≡ c + 1) × (kindIn tk c ≡ key)
+  unfolding optional
+  found-next e = let d = sym is-found ∙ e in (g .cursor ∙ rw d refl, eqb-true _ _ d)

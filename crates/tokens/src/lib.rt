@@ -2,8 +2,7 @@
 ghost use mathlib.Core.Path.{_≡_};
 ghost use Prim.Native.Nat.{_+_, _≤_};
 ghost use Rattle.rules.specs.Codes.Limit as Most;
-ghost use Rattle.rules.specs.Reading.{optional, take as takeRule};
-ghost use Rattle.codes.specs.Answer.{Quiet, row};
+ghost use Rattle.codes.specs.Answer.{Quiet};
 ghost use Rattle.tokens.specs.Answer.{kindIn, consumed, consuming, Taking, Optionally};
 use codes::BaseToken;
 use codes::Parsed;
@@ -42,7 +41,7 @@ pub fn peek(kinds: &[u8], cursor: TokenId) -> u8
 // The token at the cursor is taken.
 pub fn take(kinds: &[u8], cursor: TokenId) -> Taken
     requires { ⌜ cursor .0 ≤ Most.Tokens + 1 ⌝ }
-    ensures { λ r. ⌜ Taking (takeRule (row (now (kinds .entry)) (now (kinds .entry))) (cursor .0) tt) r ⌝ }
+    ensures { λ r. ⌜ Taking (now (kinds .entry)) (cursor .0) r ⌝ }
 {
     Taken {
         kind: peek(kinds, cursor),
@@ -77,7 +76,7 @@ pub fn consume(kinds: &[u8], cursor: TokenId, count: u32, expected: u8) -> Consu
 // The token at the cursor is taken where it is of the kind expected.
 pub fn consume_optional(kinds: &[u8], cursor: TokenId, expected: u8) -> Optional
     requires { ⌜ cursor .0 ≤ Most.Tokens + 1 ⌝ }
-    ensures { λ r. ⌜ Optionally (optional (row (now (kinds .entry)) (now (kinds .entry))) expected (cursor .0) tt) r ⌝ }
+    ensures { λ r. ⌜ Optionally (now (kinds .entry)) expected (cursor .0) r ⌝ }
 {
     if peek(kinds, cursor) == expected {
         Optional {
