@@ -34,13 +34,15 @@ module _ {A B : Type 0} (f : A → Rule Nodes (Step A B)) (over : Rule Nodes B) 
   round-stops e = stops _ e
 
 -- Between two rounds: the whole goes on as what is left of it, for which there are rounds enough up to the place n.
-pub record Going {A C : Type 0} (whole : Rule Nodes C) (c₀ : ℕ) (s₀ : Nodes) (rest : ℕ → A → Rule Nodes C) (n : ℕ) (a : A)
+pub record Going {A C : Type 0} (whole : Rule Nodes C) (c₀ : ℕ) (s₀ : Nodes) (rest : ℕ → A → Rule Nodes C) (n : ℕ)
+    (a : A)
     (c : ℕ) (s : Nodes) : Type 0 where
   pub rounds : ℕ
   pub enough : n ≤ rounds + c
   pub onto : Onto whole c₀ s₀ (rest (suc rounds) a) c s
 
-module _ {A C : Type 0} {whole : Rule Nodes C} {c₀ : ℕ} {s₀ : Nodes} (rest : ℕ → A → Rule Nodes C) {n : ℕ} {a : A} {c : ℕ}
+module _ {A C : Type 0} {whole : Rule Nodes C} {c₀ : ℕ} {s₀ : Nodes} (rest : ℕ → A → Rule Nodes C) {n : ℕ} {a : A}
+    {c : ℕ}
     {s : Nodes} where
   -- before the first round
   pub sets-out : Onto whole c₀ s₀ (rest (suc n) a) c s → Going whole c₀ s₀ rest n a c s

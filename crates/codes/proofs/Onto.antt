@@ -13,7 +13,8 @@ use Rattle.codes.specs.declared.NodeId.{NodeId}
 use Rattle.codes.specs.declared.TokenId.{TokenId}
 use Rattle.codes.specs.Answer.{Form, As, Gives, Sized, answer, refusal, parsed, nodes, token, nodeId}
 use Rattle.rules.specs.Codes.{pick, entry}
-use Rattle.rules.specs.Reading.{Result, ok, no, Outcome, Rule, next, Row, kindOf, _>>=_, here, take, peek, choose, pure, refuse}
+use Rattle.rules.specs.Reading.{Result, ok, no, Outcome, Rule, next, Row, kindOf, _>>=_, here, take, peek, choose}
+use Rattle.rules.specs.Reading.{pure, refuse}
 use Rattle.rules.specs.Columns.{Nodes}
 use Rattle.rules.proofs.Forward.{Goes, Left, Grown}
 
@@ -158,7 +159,8 @@ outcome :
     o ≡ record { result = res; cursor = p; state = nodes ks ls k }
 outcome o res p k a b d e f = rw (← a, ← b, d, e, f) refl
 
-module _ {A R : Type 0} {F : Form A R} (P : Plain F) {m : Rule Nodes A} {c : ℕ} {s : Nodes} {z : R} {ks ls : List ℕ} (g : As F m c s z ks ls) where
+module _ {A R : Type 0} {F : Form A R} (P : Plain F) {m : Rule Nodes A} {c : ℕ} {s : Nodes} {z : R}
+    {ks ls : List ℕ} (g : As F m c s z ks ls) where
   -- what was read, by the answer
   pub came-read : {a : A} {p k : ℕ} → z ≡ F .read a p k → Onto m c s (pure a) p (nodes ks ls k)
   came-read {a} {p} {k} q =
@@ -199,7 +201,8 @@ pub record Refusing {A : Type 0} (m : Rule Nodes A) (c : ℕ) (s : Nodes) (r : P
 pub held :
     {A R : Type 0} {F : Form A R} → Holding F → {m : Rule Nodes A} {c : ℕ} {s : Nodes} {z : R} {ks ls : List ℕ} →
     As F m c s z ks ls → {r : Parsed} → z ≡ F .refused r → Refusing m c s r ks ls
-held {A} {F = F} H {m} {c} {s} {z} {ks} {ls} g {r} q = go (m c s .result) (m c s .cursor) (m c s .state .count) refl refl refl (sym q ∙ g .reply)
+held {A} {F = F} H {m} {c} {s} {z} {ks} {ls} g {r} q = go (m c s .result) (m c s .cursor)
+    (m c s .state .count) refl refl refl (sym q ∙ g .reply)
   where
     go :
         (res : Result A) (p k : ℕ) → m c s .result ≡ res → m c s .cursor ≡ p → k ≡ m c s .state .count →
@@ -244,7 +247,9 @@ pub moved :
 moved {s = s} e {n = n} {Q = Q} h room b = let l = h .run s room b in rw (e .same) at l
 
 -- what a reader takes for granted holds after one that it calls
-module _ {tk tv ns ls : List ℕ} {c k : ℕ} (z : Sized tk tv ns ls c k) {A R : Type 0} {F : Form A R} (P : Plain F) {m : Rule Nodes A} {Q : A → ℕ → Type 0} (h : Goes (length tk) m c Q) {r : R} {ns' ls' : List ℕ} (g : As F m c (nodes ns ls k) r ns' ls') where
+module _ {tk tv ns ls : List ℕ} {c k : ℕ} (z : Sized tk tv ns ls c k) {A R : Type 0} {F : Form A R} (P : Plain F)
+    {m : Rule Nodes A} {Q : A → ℕ → Type 0} (h : Goes (length tk) m c Q) {r : R} {ns' ls' : List ℕ}
+    (g : As F m c (nodes ns ls k) r ns' ls') where
   pub sized-after : {a : A} {p j : ℕ} → r ≡ F .read a p j → Sized tk tv ns' ls' p j × Q a p
   sized-after q =
       let (b, d, w) = moved (came-read P g q) h (z .used) (z .at) in (

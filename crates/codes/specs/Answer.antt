@@ -45,7 +45,8 @@ answer F (ok a) cursor count = F .read a cursor count
 answer F (no number start end) cursor count = F .refused (refusal number start end cursor count)
 
 -- The answer r and the columns ks (kinds) and ls (loads) are what the rule m gives from the cursor c and the nodes s.
-pub record As {A R : Type 0} (F : Form A R) (m : Rule Nodes A) (c : ℕ) (s : Nodes) (r : R) (ks ls : List ℕ) : Type 0 where
+pub record As {A R : Type 0} (F : Form A R) (m : Rule Nodes A) (c : ℕ) (s : Nodes) (r : R)
+    (ks ls : List ℕ) : Type 0 where
   pub reply : r ≡ answer F (m c s .result) (m c s .cursor) (m c s .state .count)
   pub kinds : ks ≡ m c s .state .kinds
   pub loads : ls ≡ m c s .state .loads
@@ -60,7 +61,8 @@ pub record Untyped {A R : Type 0} (F : Form A R) (m : Row → Rule Nodes A) (kin
   pub run : (types : List ℕ) → As F (m (row kinds types)) c s r ks ls
 
 -- The same of a reader that appends nothing and reads no value type: whatever these and the columns are.
-pub record Quiet {A R : Type 0} (F : Form A R) (m : Row → Rule Nodes A) (kinds : List ℕ) (c count : ℕ) (r : R) : Type 0 where
+pub record Quiet {A R : Type 0} (F : Form A R) (m : Row → Rule Nodes A) (kinds : List ℕ) (c count : ℕ)
+    (r : R) : Type 0 where
   pub run : (types ks ls : List ℕ) → As F (m (row kinds types)) c (nodes ks ls count) r ks ls
 
 -- What every reader takes for granted of the row's kinds ks and value types vs, of the node columns, kinds ns and loads

@@ -31,10 +31,18 @@ pub past-token :
     Sized tk tv ns ls c k → Sized tk tv ns ls (c + 1) k
 past-token {tk} {c = c} t key p e n z =
     let b : c < length tk = in-row tk c t key p e n in
-    record { types = z .types; tokens = z .tokens; at = omega arith; loads = z .loads; slots = z .slots; used = z .used }
+    record {
+      types = z .types;
+      tokens = z .tokens;
+      at = omega arith;
+      loads = z .loads;
+      slots = z .slots;
+      used = z .used;
+    }
 
 -- the cursor and the count after a token that was expected
-module _ {tk : List ℕ} {c k : ℕ} (key : ℕ) {o : Consumed} (g : Quiet consumed (consuming key) tk c k o) {p : TokenId} {j : ℕ} (q : o ≡ Next p j) where
+module _ {tk : List ℕ} {c k : ℕ} (key : ℕ) {o : Consumed} (g : Quiet consumed (consuming key) tk c k o)
+    {p : TokenId} {j : ℕ} (q : o ≡ Next p j) where
   passed : (p .0 ≡ c + 1) × (j ≡ k) × (kindIn tk c ≡ key)
   unfolding consuming consume
   passed = go (eqb (kindIn tk c) key) refl (came-read (holding-consumed .plain) (g .run [] [] []) q .same)
@@ -45,8 +53,15 @@ module _ {tk : List ℕ} {c k : ℕ} (key : ℕ) {o : Consumed} (g : Quiet consu
           (record { result = pick b (ok (tt {0})) (no (refusalOf key) c c); cursor = c + 1; state = nodes [] [] k })
           (record { result = ok (tt {0}); cursor = p .0; state = nodes [] [] j }) →
           (p .0 ≡ c + 1) × (j ≡ k) × (kindIn tk c ≡ key)
-      go true d e = (sym (ap (λ (o : Outcome Nodes (Unit {0})). o .cursor) e), sym (ap (λ (o : Outcome Nodes (Unit {0})). o .state .count) e), eqb-true _ _ d)
-      go false d e = let x : no (refusalOf key) c c ≡ ok (tt {0}) = ap (λ (o : Outcome Nodes (Unit {0})). o .result) e in let z : _≡_ {A = ℕ} 0 1 = cc in absurd (omega arith)
+      go true d e = (
+        sym (ap (λ (o : Outcome Nodes (Unit {0})). o .cursor) e),
+        sym (ap (λ (o : Outcome Nodes (Unit {0})). o .state .count) e),
+        eqb-true _ _ d,
+      )
+      go false d e =
+          let x : no (refusalOf key) c c ≡ ok (tt {0}) = ap (λ (o : Outcome Nodes (Unit {0})). o .result) e in
+          let z : _≡_ {A = ℕ} 0 1 = cc in
+          absurd (omega arith)
 
   pub past-consumed : {tv ns ls : List ℕ} → Nonzero (refusalOf key) → Sized tk tv ns ls c k → Sized tk tv ns ls (p .0) j
   unfolding consuming
@@ -58,7 +73,8 @@ module _ {tk : List ℕ} {c k : ℕ} (key : ℕ) {o : Consumed} (g : Quiet consu
   same-count = passed .1
 
 -- a token that may stand here is passed
-optional-at : {tk : List ℕ} {key c : ℕ} {o : Optional} → Optionally tk key c o → Nonzero key → c ≤ length tk → o .cursor .0 ≤ length tk
+optional-at : {tk : List ℕ} {key c : ℕ} {o : Optional} → Optionally tk key c o → Nonzero key → c ≤ length tk →
+    o .cursor .0 ≤ length tk
 optional-at {tk} {key} {c} {o} g n b = go (o .found) refl
   where
     go : (f : Bool) → o .found ≡ f → o .cursor .0 ≤ length tk

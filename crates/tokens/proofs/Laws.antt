@@ -30,7 +30,9 @@ module _ (ks : List ℕ) (k t c n : ℕ) (peeked : t ≡ kindIn ks c) where
       (t ≡ k → ⊥) → (x : ℕ) → x ≡ refusalOf k →
       Quiet consumed (consuming k) ks c n (Wrong (refusal x c c (c + 1) n))
   unfolding consume consuming
-  wrong h x q = record { run = λ vs ns ls. rw q (declines (record { same = rw (ne-eqb _ _ (λ e. h (peeked ∙ e))) refl })) }
+  wrong h x q = record {
+    run = λ vs ns ls. rw q (declines (record { same = rw (ne-eqb _ _ (λ e. h (peeked ∙ e))) refl }));
+  }
 
 module _ (ks : List ℕ) (k t c : ℕ) (peeked : t ≡ kindIn ks c) where
   pub found : t ≡ k → Optionally ks k c (record { found = true; cursor = token (c + 1) })
