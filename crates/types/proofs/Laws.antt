@@ -1,97 +1,112 @@
 -- How the answers of the readers of types follow from those of the readers that they call, a law for each return.
-use mathlib.Core.Path.{_≡_, refl, sym, _∙_, ap}
+use mathlib.Core.Path.{_≡_, refl, sym, _∙_}
 use mathlib.Core.Bool.{Bool, true, false}
 use mathlib.Core.List.{List, [], _∷_}
 use Prim.Native.Nat.{ℕ, zero, suc, _+_, _-_, _≤_, _<_}
 use lib.Dec.{ltb}
-use borrow.Author.Tests.{lt-ltb, le-ltb}
+use borrow.Author.Tests.{lt-ltb, le-ltb, eq-eqb, ne-eqb}
 use native.Mathlib.Omega.{arith}
 use native.Mathlib.Numerals.{sub-one}
 use Rattle.codes.specs.declared.Parsed.{Parsed}
 use Rattle.codes.specs.declared.Parsed.the-variants.{Node, Refused}
 use Rattle.codes.specs.declared.NodeId.{NodeId}
 use Rattle.codes.specs.declared.TokenId.{TokenId}
-use Rattle.codes.specs.Answer.{As, Gives, Quiet, nodes, token, nodeId, row, refusal}
-use Rattle.codes.proofs.Onto.{Onto, _then_, stays, reads, at-here, takes, answers, declines, shows, told, held, hands-on, came-read, plain-parsed, Plain, Holding, Rest, beside, picked}
+use Rattle.codes.specs.Answer.{Gives, Quiet, nodes, token, row, refusal}
+use Rattle.codes.proofs.Onto.{Onto, _then_, stays, reads, at-here, takes, answers, declines, shows, told, held}
+use Rattle.codes.proofs.Onto.{hands-on, came-read, plain-parsed, Rest, beside, picked}
 use Rattle.tokens.specs.declared.Consumed.{Consumed}
 use Rattle.tokens.specs.declared.Consumed.the-variants.{Next, Wrong}
 use Rattle.tokens.specs.Answer.{kindIn, consumed, consuming}
 use Rattle.tokens.proofs.Laws.{holding-consumed}
-use Rattle.types.specs.declared.ArraySize.{ArraySize}
-use Rattle.types.specs.declared.ArraySize.the-variants.{Size, NoSize}
-use Rattle.types.specs.Answer.{sized, closing}
+use Rattle.tokens.proofs.Bounds.{in-row, past-token}
+use Rattle.types.specs.declared.Start.{Start}
+use Rattle.types.specs.declared.Start.the-variants.{Leaf, Around, NoType}
+use Rattle.types.specs.Answer.{sized, finishing, Onward, Starts, spanning}
+use Rattle.types.proofs.Sizes.{holding-sized, no-leaf}
+use Rattle.types.proofs.Bounds.{leaf-on, around-on, after-size, size-kind}
 use Rattle.rules.specs.Codes.{pick}
 use Rattle.rules.specs.Codes.BaseToken as BaseToken
 use Rattle.rules.specs.Codes.ParseNode as ParseNode
 use Rattle.rules.specs.Codes.Refusal as Refusal
-use Rattle.rules.specs.Reading.{Rule, Row, kindOf, typeOf, _>>=_, pure, refuse, here, take, choose, consume}
+use Rattle.rules.specs.Reading.{Rule, Row, _>>=_, pure, choose, consume}
 use Rattle.rules.specs.Columns.{Nodes, append, columns}
-use Rattle.rules.specs.Types.{bracketed, arraySize, pointerTo, viewOf, arrayOf, innerFrom, innerType, type}
+use Rattle.rules.specs.Types.{arraySize, pointerTo, viewOf, arrayOf, innerFrom, innerType, type}
+use Rattle.rules.proofs.Forward.{Nonzero}
 
--- the bracket after a size
-module _ (kind load : ℕ) {ks : List ℕ} {c k : ℕ} {q : Consumed} (g : Quiet consumed (consuming BaseToken.BracketRight) ks c k q) where
-  pub closed : {p : TokenId} {j : ℕ} → q ≡ Next p j → Quiet sized (closing kind load) ks c k (Size kind load p j)
-  unfolding closing bracketed consuming
-  closed e = record { run = λ vs ns ls. answers (reads _ (came-read (holding-consumed .plain) (g .run vs ns ls) e)) }
+-- the starts of one token, after k nodes: the token, and how the type goes on
+pub data Begins (types : List ℕ) (at k : ℕ) : ℕ → Start → Type 0 where
+  keyword :
+      {v : ℕ} → v ≡ kindIn types at →
+      Begins types at k BaseToken.ValueTypeKeyword (Leaf ParseNode.SimpleValueType v (token (at + 1)) k)
+  name : Begins types at k BaseToken.Identifier (Leaf ParseNode.UnresolvedStructOrWordVT at (token (at + 1)) k)
+  pointer : Begins types at k BaseToken.Ampersand (Around ParseNode.PointerVT 0 (token (at + 1)) k)
+  view : Begins types at k BaseToken.ParenLeft (Around ParseNode.ViewVT 0 (token (at + 1)) k)
 
-  pub not-closed : {r : Parsed} → q ≡ Wrong r → Quiet sized (closing kind load) ks c k (NoSize r)
-  unfolding closing bracketed consuming
-  not-closed e = record { run = λ vs ns ls. hands-on _ stays (held holding-consumed (g .run vs ns ls) e) }
+-- an inner type's start, by its first token
+module _ (tk tv : List ℕ) (c t k : ℕ) (peeked : t ≡ kindIn tk c) where
+  onward :
+      {key : ℕ} {m : Rule Nodes ℕ → Rule Nodes ℕ} → Nonzero key → t ≡ key →
+      ((element : Rule Nodes ℕ) (s : Nodes) →
+      Onto (innerFrom columns (row tk tv) element) c s (m element) (c + 1) s) →
+      Onward tk tv c k m (c + 1) k
+  onward {key} n e h =
+      record { same = λ m ks ls. h m _ .same; sized = λ ks ls. past-token t key peeked e n }
 
-pub holding-sized : Holding sized
-holding-sized = record {
-  plain = record {
-    read-same = λ a a' c c' k k' e.
-        let x : a .0 ≡ a' .0 = cc in
-        let y : a .1 ≡ a' .1 = cc in
-        let z : token c ≡ token c' = cc in
-        (rw (x, y) refl, ap (λ (t : TokenId). t .0) z, (cc));
-    refused-same = λ r r' e. cc;
-    apart = λ a c k n x y c' k' e. let z : _≡_ {A = ℕ} 0 1 = cc in omega arith;
-  };
-  holds = λ a c k r e. let z : _≡_ {A = ℕ} 0 1 = cc in omega arith;
-}
+  pub begins : {key : ℕ} {z : Start} → Begins tv c k key z → t ≡ key → Starts tk tv c k z
+  unfolding Starts innerFrom choose pointerTo viewOf finishing consume
+  begins (keyword q) e = rw q (onward refl e (λ m s. at-here _ then takes _ _ (sym e ∙ peeked)))
+  begins name e = onward refl e (λ m s. at-here _ then takes _ _ (sym e ∙ peeked))
+  begins pointer e = onward refl e (λ m s. at-here _ then takes _ _ (sym e ∙ peeked))
+  begins view e = onward refl e (λ m s. at-here _ then takes _ _ (sym e ∙ peeked))
 
--- the sizes that a closing bracket follows: the token, and the array type's kind and load
-pub data Sizes (at : ℕ) : ℕ → ℕ → ℕ → Type 0 where
-  slice : Sizes at BaseToken.Colon ParseNode.SliceVT 0
-  endless : Sizes at BaseToken.Dots ParseNode.EndlessArrayVT 0
-  fixed : Sizes at BaseToken.NakedDecimal ParseNode.ArrayVT at
-  named : Sizes at BaseToken.Identifier ParseNode.ArrayWithNamedLengthVT at
+  module _ (e : t ≡ BaseToken.BracketLeft) where
+    array :
+        (element : Rule Nodes ℕ) {s : Nodes} →
+        Onto (innerFrom columns (row tk tv) element) c s (arrayOf columns (row tk tv) element) (c + 1) s
+    unfolding innerFrom choose
+    array element = at-here _ then takes _ _ (sym e ∙ peeked)
 
--- an array's size, by its first token
-module _ (ks : List ℕ) (c t k : ℕ) (peeked : t ≡ kindIn ks c) where
-  pub no-size : t ≡ BaseToken.BracketRight → Quiet sized (arraySize columns) ks c k (Size ParseNode.ArraylikeVT 0 (token (c + 1)) k)
-  unfolding arraySize choose
-  no-size e = record { run = λ vs ns ls. answers (at-here _ then takes _ _ (sym e ∙ peeked)) }
+    pub array-begins : (z : Start) → Quiet sized (arraySize columns) tk (c + 1) k z → Starts tk tv c k z
+    unfolding Starts arrayOf finishing
+    array-begins (Leaf kind load p j) g = absurd (no-leaf (g .run tv [] []))
+    array-begins (Around kind load p j) g = record {
+      same = λ m ks ls.
+          rw (size-kind g refl (omega (arith, in-row tk c t _ peeked e refl)))
+          ((array m then reads _ (came-read (holding-sized .plain) (g .run tv ks ls) refl)) .same);
+      sized = λ ks ls z. after-size g refl (past-token t _ peeked e refl z);
+    }
+    array-begins (NoType r) g = λ m ks ls. hands-on _ (array m) (held holding-sized (g .run tv ks ls) refl)
 
-  size-closed :
-      {key kind load : ℕ} → Sizes c key kind load → (row : Row) {s : Nodes} → t ≡ kindOf row c → t ≡ key →
-      Onto (arraySize columns row) c s (bracketed columns row kind load) (c + 1) s
-  unfolding arraySize choose
-  size-closed slice row p e = at-here _ then takes _ row (sym e ∙ p)
-  size-closed endless row p e = at-here _ then takes _ row (sym e ∙ p)
-  size-closed fixed row p e = at-here _ then takes _ row (sym e ∙ p)
-  size-closed named row p e = at-here _ then takes _ row (sym e ∙ p)
+  pub no-type :
+      Rest t (Unit {0})
+      (BaseToken.ValueTypeKeyword ∷ BaseToken.Identifier ∷ BaseToken.Ampersand ∷ BaseToken.ParenLeft
+      ∷ BaseToken.BracketLeft ∷ []) →
+      Starts tk tv c k (NoType (refusal Refusal.ExpectedType c c (c + 1) k))
+  unfolding Starts innerFrom
+  no-type h = λ m ks ls. declines (at-here _ then takes _ _ peeked then beside t _ _ h)
 
-  pub size-read :
-      {key kind load : ℕ} → Sizes c key kind load → t ≡ key → {r : ArraySize} →
-      Quiet sized (closing kind load) ks (c + 1) k r → Quiet sized (arraySize columns) ks c k r
-  unfolding closing
-  size-read z e g = record { run = λ vs ns ls. shows (size-closed z (row ks vs) peeked e) (g .run vs ns ls) }
+-- an inner type, after its element type
+module _ (tk : List ℕ) (kind load : ℕ) {c k : ℕ} {ns ls : List ℕ} where
+  pub no-view :
+      (kind ≡ ParseNode.ViewVT → ⊥) → {r : Parsed} {ns' ls' : List ℕ} →
+      Gives (append kind load) c (nodes ns ls k) r ns' ls' → Gives (finishing tk kind load) c (nodes ns ls k) r ns' ls'
+  unfolding finishing
+  no-view h d = shows (picked _ _ false (ne-eqb _ _ h)) d
 
-  pub size-refused :
-      Rest t (Unit {0}) (BaseToken.BracketRight ∷ BaseToken.Colon ∷ BaseToken.Dots ∷ BaseToken.NakedDecimal ∷ BaseToken.Identifier ∷ []) →
-      Quiet sized (arraySize columns) ks c k (NoSize (refusal Refusal.ExpectedArraySize c c (c + 1) k))
-  unfolding arraySize
-  size-refused h = record { run = λ vs ns ls. declines (at-here _ then takes _ _ peeked then beside t _ _ h) }
+  module _ (e : kind ≡ ParseNode.ViewVT) {o : Consumed}
+      (g : Quiet consumed (consuming BaseToken.ParenRight) tk c k o) where
+    pub view-open : {r : Parsed} → o ≡ Wrong r → Gives (finishing tk kind load) c (nodes ns ls k) r ns ls
+    unfolding finishing consuming
+    view-open w = hands-on _ (picked _ _ true (eq-eqb _ _ e)) (held holding-consumed (g .run tk ns ls) w)
 
-deeper :
-    (row : Row) (u : ℕ) → (u ≡ 0 → ⊥) →
-    innerType columns row u ≡ innerFrom columns row (innerType columns row (u - 1))
-unfolding innerType
-deeper row zero h = absurd (h refl)
-deeper row (suc m) h = rw (sub-one (suc m)) refl
+    pub view-read :
+        {p : TokenId} {j : ℕ} → o ≡ Next p j → {r : Parsed} {ns' ls' : List ℕ} →
+        Gives (append kind load) (p .0) (nodes ns ls j) r ns' ls' →
+        Gives (finishing tk kind load) c (nodes ns ls k) r ns' ls'
+    unfolding finishing consuming
+    view-read w d =
+        shows (picked _ _ true (eq-eqb _ _ e) then
+        reads _ (came-read (holding-consumed .plain) (g .run tk ns ls) w)) d
 
 -- all nesting is used
 pub too-deep :
@@ -100,108 +115,48 @@ pub too-deep :
 unfolding innerType
 too-deep tk tv u c k ks ls e = rw e (declines (at-here _))
 
--- an inner type, by its first token
-pub data Begins (row : Row) (inner : Rule Nodes ℕ) (at : ℕ) : ℕ → Rule Nodes ℕ → Type 0 where
-  keyword : Begins row inner at BaseToken.ValueTypeKeyword (append ParseNode.SimpleValueType (typeOf row at))
-  name : Begins row inner at BaseToken.Identifier (append ParseNode.UnresolvedStructOrWordVT at)
-  pointer : Begins row inner at BaseToken.Ampersand (pointerTo columns row inner)
-  view : Begins row inner at BaseToken.ParenLeft (viewOf columns row inner)
-  array : Begins row inner at BaseToken.BracketLeft (arrayOf columns row inner)
+deeper :
+    (row : Row) (u : ℕ) → (u ≡ 0 → ⊥) →
+    innerType columns row u ≡ innerFrom columns row (innerType columns row (u - 1))
+unfolding innerType
+deeper row zero h = absurd (h refl)
+deeper row (suc m) h = rw (sub-one (suc m)) refl
 
-module _ (tk tv : List ℕ) (u c t : ℕ) {s : Nodes} (left : u ≡ 0 → ⊥) (peeked : t ≡ kindIn tk c) where
-  begins :
-      {key : ℕ} {m : Rule Nodes ℕ} → Begins (row tk tv) (innerType columns (row tk tv) (u - 1)) c key m → t ≡ key →
-      Onto (innerType columns (row tk tv) u) c s m (c + 1) s
-  unfolding innerFrom choose
-  begins keyword e = rw (deeper (row tk tv) u left) (at-here _ then takes _ _ (sym e ∙ peeked))
-  begins name e = rw (deeper (row tk tv) u left) (at-here _ then takes _ _ (sym e ∙ peeked))
-  begins pointer e = rw (deeper (row tk tv) u left) (at-here _ then takes _ _ (sym e ∙ peeked))
-  begins view e = rw (deeper (row tk tv) u left) (at-here _ then takes _ _ (sym e ∙ peeked))
-  begins array e = rw (deeper (row tk tv) u left) (at-here _ then takes _ _ (sym e ∙ peeked))
+-- an inner type, by its start
+module _ (tk tv : List ℕ) (u c k : ℕ) {ns ls : List ℕ} (left : u ≡ 0 → ⊥) {z : Start}
+    (g : Starts tk tv c k z) where
+  pub refused : {r : Parsed} → z ≡ NoType r → Gives (innerType columns (row tk tv) u) c (nodes ns ls k) r ns ls
+  unfolding Starts
+  refused q = rw (deeper (row tk tv) u left) ((rw q at g) _ ns ls)
 
-  pub keyword-read :
-      t ≡ BaseToken.ValueTypeKeyword → {v : ℕ} → v ≡ kindIn tv c → {r : Parsed} {ks ls : List ℕ} →
-      Gives (append ParseNode.SimpleValueType v) (c + 1) s r ks ls → Gives (innerType columns (row tk tv) u) c s r ks ls
-  keyword-read e q g = shows (begins keyword e) (rw (← q) g)
+  module _ {kind load : ℕ} {p : TokenId} {j : ℕ} where
+    pub leaf-read :
+        z ≡ Leaf kind load p j → {r : Parsed} {ns' ls' : List ℕ} →
+        Gives (append kind load) (p .0) (nodes ns ls j) r ns' ls' →
+        Gives (innerType columns (row tk tv) u) c (nodes ns ls k) r ns' ls'
+    leaf-read q d = rw (deeper (row tk tv) u left) (shows (record { same = leaf-on g q .same _ ns ls }) d)
 
-  pub name-read :
-      t ≡ BaseToken.Identifier → {r : Parsed} {ks ls : List ℕ} →
-      Gives (append ParseNode.UnresolvedStructOrWordVT c) (c + 1) s r ks ls →
-      Gives (innerType columns (row tk tv) u) c s r ks ls
-  name-read e g = shows (begins name e) g
+    module _ (q : z ≡ Around kind load p j) {r₁ : Parsed} {ks₁ ls₁ : List ℕ}
+        (d : Gives (innerType columns (row tk tv) (u - 1)) (p .0) (nodes ns ls j) r₁ ks₁ ls₁) where
+      around :
+          Onto (innerType columns (row tk tv) u) c (nodes ns ls k)
+          (innerType columns (row tk tv) (u - 1) >>= λ _. finishing tk kind load) (p .0) (nodes ns ls j)
+      around = rw (deeper (row tk tv) u left) (record { same = around-on g q .same _ ns ls })
 
-  -- `&` or `(` and an inner type
-  module _ {r₁ : Parsed} {ks₁ ls₁ : List ℕ} (g : Gives (innerType columns (row tk tv) (u - 1)) (c + 1) s r₁ ks₁ ls₁) where
-    pub pointer-stopped :
-        t ≡ BaseToken.Ampersand → {x : ℕ} {a e p : TokenId} {k : ℕ} → r₁ ≡ Refused x a e p k →
-        Gives (innerType columns (row tk tv) u) c s r₁ ks₁ ls₁
-    unfolding pointerTo
-    pointer-stopped e q = hands-on _ (begins pointer e) (told g q)
+      pub element-stopped :
+          {x : ℕ} {a b p' : TokenId} {i : ℕ} → r₁ ≡ Refused x a b p' i →
+          Gives (innerType columns (row tk tv) u) c (nodes ns ls k) r₁ ks₁ ls₁
+      element-stopped w = hands-on _ around (told d w)
 
-    pub view-stopped :
-        t ≡ BaseToken.ParenLeft → {x : ℕ} {a e p : TokenId} {k : ℕ} → r₁ ≡ Refused x a e p k →
-        Gives (innerType columns (row tk tv) u) c s r₁ ks₁ ls₁
-    unfolding viewOf
-    view-stopped e q = hands-on _ (begins view e) (told g q)
-
-    module _ {n : NodeId} {p : TokenId} {k : ℕ} (q : r₁ ≡ Node n p k) where
-      pub pointer-read :
-          t ≡ BaseToken.Ampersand → {r : Parsed} {ks ls : List ℕ} →
-          Gives (append ParseNode.PointerVT 0) (p .0) (nodes ks₁ ls₁ k) r ks ls →
-          Gives (innerType columns (row tk tv) u) c s r ks ls
-      unfolding pointerTo
-      pointer-read e d = shows (begins pointer e then reads _ (came-read plain-parsed g q)) d
-
-      module _ (e : t ≡ BaseToken.ParenLeft) {o : Consumed} (d : Quiet consumed (consuming BaseToken.ParenRight) tk (p .0) k o) where
-        pub view-open : {r : Parsed} → o ≡ Wrong r → Gives (innerType columns (row tk tv) u) c s r ks₁ ls₁
-        unfolding viewOf consuming
-        view-open w =
-            hands-on _ (begins view e then reads _ (came-read plain-parsed g q))
-            (held holding-consumed (d .run tv ks₁ ls₁) w)
-
-        pub view-read :
-            {p' : TokenId} {j : ℕ} → o ≡ Next p' j → {r : Parsed} {ks ls : List ℕ} →
-            Gives (append ParseNode.ViewVT 0) (p' .0) (nodes ks₁ ls₁ j) r ks ls →
-            Gives (innerType columns (row tk tv) u) c s r ks ls
-        unfolding viewOf consuming
-        view-read w h =
-            shows (begins view e then reads _ (came-read plain-parsed g q) then
-            reads _ (came-read (holding-consumed .plain) (d .run tv ks₁ ls₁) w)) h
-
--- `[`, a size and an inner type
-module _ (tk tv : List ℕ) (u c t k : ℕ) {ns ns' : List ℕ} (left : u ≡ 0 → ⊥) (peeked : t ≡ kindIn tk c) (e : t ≡ BaseToken.BracketLeft) {z : ArraySize} (d : Quiet sized (arraySize columns) tk (c + 1) k z) where
-  pub array-unsized : {r : Parsed} → z ≡ NoSize r → Gives (innerType columns (row tk tv) u) c (nodes ns ns' k) r ns ns'
-  unfolding arrayOf
-  array-unsized w = hands-on _ (begins tk tv u c t left peeked array e) (held holding-sized (d .run tv ns ns') w)
-
-  module _ {kind load : ℕ} {p : TokenId} {j : ℕ} (w : z ≡ Size kind load p j) {r₁ : Parsed} {ks₁ ls₁ : List ℕ} (g : Gives (innerType columns (row tk tv) (u - 1)) (p .0) (nodes ns ns' j) r₁ ks₁ ls₁) where
-    pub array-stopped :
-        {x : ℕ} {a b p' : TokenId} {i : ℕ} → r₁ ≡ Refused x a b p' i →
-        Gives (innerType columns (row tk tv) u) c (nodes ns ns' k) r₁ ks₁ ls₁
-    unfolding arrayOf
-    array-stopped q =
-        hands-on _ (begins tk tv u c t left peeked array e then reads _ (came-read (holding-sized .plain) (d .run tv ns ns') w))
-        (told g q)
-
-    pub array-read :
-        {n : NodeId} {p' : TokenId} {i : ℕ} → r₁ ≡ Node n p' i → {r : Parsed} {ks ls : List ℕ} →
-        Gives (append kind load) (p' .0) (nodes ks₁ ls₁ i) r ks ls →
-        Gives (innerType columns (row tk tv) u) c (nodes ns ns' k) r ks ls
-    unfolding arrayOf
-    array-read q h =
-        shows (begins tk tv u c t left peeked array e then reads _ (came-read (holding-sized .plain) (d .run tv ns ns') w) then
-        reads _ (came-read plain-parsed g q)) h
-
-pub no-type :
-    (tk tv : List ℕ) (u c t k : ℕ) (ks ls : List ℕ) → (u ≡ 0 → ⊥) → t ≡ kindIn tk c →
-    Rest t (Unit {0}) (BaseToken.ValueTypeKeyword ∷ BaseToken.Identifier ∷ BaseToken.Ampersand ∷ BaseToken.ParenLeft ∷ BaseToken.BracketLeft ∷ []) →
-    Gives (innerType columns (row tk tv) u) c (nodes ks ls k) (refusal Refusal.ExpectedType c c (c + 1) k) ks ls
-unfolding innerFrom
-no-type tk tv u c t k ks ls left peeked h =
-    declines (rw (deeper (row tk tv) u left) (at-here _ then takes _ _ peeked then beside t _ _ h))
+      pub element-read :
+          {n : NodeId} {p' : TokenId} {i : ℕ} → r₁ ≡ Node n p' i → {r : Parsed} {ks' ls' : List ℕ} →
+          Gives (finishing tk kind load) (p' .0) (nodes ks₁ ls₁ i) r ks' ls' →
+          Gives (innerType columns (row tk tv) u) c (nodes ns ls k) r ks' ls'
+      element-read w f = shows (around then reads _ (came-read plain-parsed d w)) f
 
 -- a type, once its inner type is read or refused
-module _ (tk tv : List ℕ) (u c : ℕ) {s : Nodes} {r₁ : Parsed} {ks₁ ls₁ : List ℕ} (g : Gives (innerType columns (row tk tv) u) c s r₁ ks₁ ls₁) where
+module _ (tk tv : List ℕ) (u c : ℕ) {s : Nodes} {r₁ : Parsed} {ks₁ ls₁ : List ℕ}
+    (g : Gives (innerType columns (row tk tv) u) c s r₁ ks₁ ls₁) where
   pub type-stopped :
       {x : ℕ} {a e p : TokenId} {k : ℕ} → r₁ ≡ Refused x a e p k → Gives (type columns (row tk tv) u) c s r₁ ks₁ ls₁
   unfolding type
@@ -211,23 +166,29 @@ module _ (tk tv : List ℕ) (u c : ℕ) {s : Nodes} {r₁ : Parsed} {ks₁ ls₁
     -- the length of the type's span, and what is to follow
     spans :
         (b : Bool) → ltb (c + 1) (p .0) ≡ b →
-        Onto (type columns (row tk tv) u) c s
-        (pick b (append ParseNode.EndOfSpan (p .0) >>= λ _. append ParseNode.CompositeValueType c) (pure (n .0))) (p .0)
-        (nodes ks₁ ls₁ k)
-    unfolding type
+        Onto (type columns (row tk tv) u) c s (pick b (spanning c (p .0)) (pure (n .0))) (p .0) (nodes ks₁ ls₁ k)
+    unfolding type spanning
     spans b e = at-here _ then reads _ (came-read plain-parsed g q) then at-here _ then picked _ _ b e
 
     pub type-single : p .0 ≤ c + 1 → Gives (type columns (row tk tv) u) c s (Node n p k) ks₁ ls₁
     type-single h = answers (spans false (le-ltb _ _ h))
 
-    module _ (h : c + 1 < p .0) {r₂ : Parsed} {ks₂ ls₂ : List ℕ} (d : Gives (append ParseNode.EndOfSpan (p .0)) (p .0) (nodes ks₁ ls₁ k) r₂ ks₂ ls₂) where
-      pub span-stopped :
-          {x : ℕ} {a e p' : TokenId} {j : ℕ} → r₂ ≡ Refused x a e p' j →
-          Gives (type columns (row tk tv) u) c s r₂ ks₂ ls₂
-      span-stopped w = hands-on _ (spans true (lt-ltb _ _ h)) (told d w)
+    pub type-read :
+        c + 1 < p .0 → {r : Parsed} {ks ls : List ℕ} → Gives (spanning c (p .0)) (p .0) (nodes ks₁ ls₁ k) r ks ls →
+        Gives (type columns (row tk tv) u) c s r ks ls
+    type-read h d = shows (spans true (lt-ltb _ _ h)) d
 
-      pub type-read :
-          {m : NodeId} {p' : TokenId} {j : ℕ} → r₂ ≡ Node m p' j → {r : Parsed} {ks ls : List ℕ} →
-          Gives (append ParseNode.CompositeValueType c) (p' .0) (nodes ks₂ ls₂ j) r ks ls →
-          Gives (type columns (row tk tv) u) c s r ks ls
-      type-read w f = shows (spans true (lt-ltb _ _ h) then reads _ (came-read plain-parsed d w)) f
+-- a type's span, once its first node is appended or refused
+module _ (start c : ℕ) {s : Nodes} {r₁ : Parsed} {ks₁ ls₁ : List ℕ}
+    (g : Gives (append ParseNode.EndOfSpan c) c s r₁ ks₁ ls₁) where
+  pub span-stopped :
+      {x : ℕ} {a e p : TokenId} {k : ℕ} → r₁ ≡ Refused x a e p k → Gives (spanning start c) c s r₁ ks₁ ls₁
+  unfolding spanning
+  span-stopped q = hands-on _ stays (told g q)
+
+  pub span-read :
+      {n : NodeId} {p : TokenId} {k : ℕ} → r₁ ≡ Node n p k → {r : Parsed} {ks ls : List ℕ} →
+      Gives (append ParseNode.CompositeValueType start) (p .0) (nodes ks₁ ls₁ k) r ks ls →
+      Gives (spanning start c) c s r ks ls
+  unfolding spanning
+  span-read q d = shows (reads _ (came-read plain-parsed g q)) d

@@ -1,10 +1,12 @@
 // Types, after parse_type and parse_inner_type of the Rust's parser.rs.
 ghost use Prim.Native.Nat.{_+_, _≤_};
+ghost use lib.ListN.{length};
 ghost use Rattle.rules.specs.Codes.Limit as Most;
 ghost use Rattle.rules.specs.Types.{innerType, type, arraySize};
 ghost use Rattle.rules.specs.Columns.{columns};
 ghost use Rattle.codes.specs.Answer.{Gives, Quiet, Sized, row, nodes};
-ghost use Rattle.types.specs.Answer.{sized, closing};
+ghost use Rattle.nodes.specs.Answer.{Slots};
+ghost use Rattle.types.specs.Answer.{sized, closing, Starts, finishing, spanning};
 use codes::BaseToken;
 use codes::ParseNode;
 use codes::Parsed;
@@ -15,21 +17,16 @@ use tokens::Consumed;
 use tokens::consume;
 use tokens::peek;
 
-// The kind and the load of the array type that a size stands for, or a refusal.
-pub enum ArraySize {
-    Size {
-        kind: u8,
-        load: u32,
-        cursor: TokenId,
-        count: u32,
-    },
-    NoSize {
-        refusal: Parsed,
-    },
+// How an inner type starts. Leaf: a node's kind and load, the cursor after its token, and the count. Around: the kind
+// and load of the node that follows the element type, the cursor where that begins, and the count.
+enum Start {
+    Leaf(u8, u32, TokenId, u32),
+    Around(u8, u32, TokenId, u32),
+    NoType(Parsed),
 }
 
 // The bracket that closes a size.
-fn close_array(kinds: &[u8], cursor: TokenId, count: u32, kind: u8, load: u32) -> ArraySize
+fn close_array(kinds: &[u8], cursor: TokenId, count: u32, kind: u8, load: u32) -> Start
     requires { ⌜ cursor .0 ≤ Most.Tokens + 1 ⌝ }
     ensures { λ r. ⌜ Quiet sized (closing kind load) (now (kinds .entry)) (cursor .0) count r ⌝ }
 {
@@ -37,30 +34,20 @@ fn close_array(kinds: &[u8], cursor: TokenId, count: u32, kind: u8, load: u32) -
         Consumed::Next {
             cursor: after,
             count: used,
-        } => ArraySize::Size {
-            kind,
-            load,
-            cursor: after,
-            count: used,
-        },
-        Consumed::Wrong { refusal } => ArraySize::NoSize { refusal },
+        } => Start::Around(kind, load, after, used),
+        Consumed::Wrong { refusal } => Start::NoType(refusal),
     }
 }
 
 // An array's size, with its closing bracket.
-fn parse_array_size(kinds: &[u8], cursor: TokenId, count: u32) -> ArraySize
+fn parse_array_size(kinds: &[u8], cursor: TokenId, count: u32) -> Start
     requires { ⌜ cursor .0 ≤ Most.Tokens ⌝ }
     ensures { λ r. ⌜ Quiet sized (arraySize columns) (now (kinds .entry)) (cursor .0) count r ⌝ }
 {
     let at = cursor.0;
     let next = TokenId(at + 1);
     match peek(kinds, cursor) {
-        BaseToken::BracketRight => ArraySize::Size {
-            kind: ParseNode::ArraylikeVT,
-            load: 0,
-            cursor: next,
-            count,
-        },
+        BaseToken::BracketRight => Start::Around(ParseNode::ArraylikeVT, 0, next, count),
         BaseToken::Colon => close_array(kinds, next, count, ParseNode::SliceVT, 0),
         BaseToken::Dots => close_array(kinds, next, count, ParseNode::EndlessArrayVT, 0),
         BaseToken::NakedDecimal => close_array(kinds, next, count, ParseNode::ArrayVT, at),
@@ -71,15 +58,67 @@ fn parse_array_size(kinds: &[u8], cursor: TokenId, count: u32) -> ArraySize
             ParseNode::ArrayWithNamedLengthVT,
             at,
         ),
-        _ => ArraySize::NoSize {
-            refusal: Parsed::Refused {
-                number: Refusal::ExpectedArraySize,
-                start: cursor,
-                end: cursor,
-                cursor: next,
-                count,
-            },
-        },
+        _ => Start::NoType(Parsed::Refused {
+            number: Refusal::ExpectedArraySize,
+            start: cursor,
+            end: cursor,
+            cursor: next,
+            count,
+        }),
+    }
+}
+
+// An inner type up to its element type.
+fn start_inner_type(kinds: &[u8], types: &[u8], cursor: TokenId, count: u32) -> Start
+    requires { ⌜ (cursor .0 ≤ length (now kinds)) × (length (now kinds) ≤ Most.Tokens) ⌝ }
+    ensures { λ r. ⌜ Starts (now (kinds .entry)) (now (types .entry)) (cursor .0) count r ⌝ }
+{
+    let at = cursor.0;
+    let next = TokenId(at + 1);
+    match peek(kinds, cursor) {
+        BaseToken::ValueTypeKeyword => {
+            let value_type = peek(types, cursor);
+            Start::Leaf(ParseNode::SimpleValueType, value_type as u32, next, count)
+        }
+        BaseToken::Identifier => {
+            Start::Leaf(ParseNode::UnresolvedStructOrWordVT, at, next, count)
+        }
+        BaseToken::Ampersand => Start::Around(ParseNode::PointerVT, 0, next, count),
+        BaseToken::ParenLeft => Start::Around(ParseNode::ViewVT, 0, next, count),
+        BaseToken::BracketLeft => parse_array_size(kinds, next, count),
+        _ => Start::NoType(Parsed::Refused {
+            number: Refusal::ExpectedType,
+            start: cursor,
+            end: cursor,
+            cursor: next,
+            count,
+        }),
+    }
+}
+
+// An inner type after its element type: a view's closing parenthesis, and the node.
+fn finish_inner_type(
+    kinds: &[u8],
+    node_kinds: &mut [u8],
+    node_loads: &mut [u32],
+    cursor: TokenId,
+    count: u32,
+    kind: u8,
+    load: u32,
+) -> Parsed
+    requires { ⌜ Slots (now «node_kinds») (now «node_loads») count × (cursor .0 ≤ Most.Tokens + 1) ⌝ }
+    ensures { λ r. ⌜ Gives (finishing (now (kinds .entry)) kind load) (cursor .0) (nodes (now («node_kinds» .entry)) (now («node_loads» .entry)) count) r (now («node_kinds» .exit)) (now («node_loads» .exit)) ⌝ }
+{
+    if kind == ParseNode::ViewVT {
+        match consume(kinds, cursor, count, BaseToken::ParenRight) {
+            Consumed::Next {
+                cursor: after,
+                count: used,
+            } => push(node_kinds, node_loads, after, used, kind, load),
+            Consumed::Wrong { refusal } => refusal,
+        }
+    } else {
+        push(node_kinds, node_loads, cursor, count, kind, load)
     }
 }
 
@@ -105,112 +144,60 @@ fn parse_inner_type(
             count,
         };
     }
-    let at = cursor.0;
-    let next = TokenId(at + 1);
-    match peek(kinds, cursor) {
-        BaseToken::ValueTypeKeyword => {
-            let value_type = peek(types, cursor);
-            push(
-                node_kinds,
-                node_loads,
-                next,
-                count,
-                ParseNode::SimpleValueType,
-                value_type as u32,
-            )
-        }
-        BaseToken::Identifier => {
-            push(
-                node_kinds,
-                node_loads,
-                next,
-                count,
-                ParseNode::UnresolvedStructOrWordVT,
-                at,
-            )
-        }
-        BaseToken::Ampersand => {
-            let inner = parse_inner_type(
-                kinds,
-                types,
-                node_kinds,
-                node_loads,
-                next,
-                count,
-                unused - 1,
-            );
+    match start_inner_type(kinds, types, cursor, count) {
+        Start::Leaf(kind, load, end, used) => push(node_kinds, node_loads, end, used, kind, load),
+        Start::Around(kind, load, next, used) => {
+            let left = unused - 1;
+            let inner = parse_inner_type(kinds, types, node_kinds, node_loads, next, used, left);
             let Parsed::Node {
                 root: _,
                 cursor: after,
-                count: used,
+                count: more,
             } = inner
             else {
                 return inner;
             };
-            push(node_kinds, node_loads, after, used, ParseNode::PointerVT, 0)
+            finish_inner_type(kinds, node_kinds, node_loads, after, more, kind, load)
         }
-        BaseToken::ParenLeft => {
-            let inner = parse_inner_type(
-                kinds,
-                types,
-                node_kinds,
-                node_loads,
-                next,
-                count,
-                unused - 1,
-            );
-            let Parsed::Node {
-                root: _,
-                cursor: after,
-                count: used,
-            } = inner
-            else {
-                return inner;
-            };
-            match consume(kinds, after, used, BaseToken::ParenRight) {
-                Consumed::Next {
-                    cursor: end,
-                    count: same,
-                } => { push(node_kinds, node_loads, end, same, ParseNode::ViewVT, 0) }
-                Consumed::Wrong { refusal } => refusal,
-            }
-        }
-        BaseToken::BracketLeft => match parse_array_size(kinds, next, count) {
-            ArraySize::Size {
-                kind,
-                load,
-                cursor: start,
-                count: same,
-            } => {
-                let inner = parse_inner_type(
-                    kinds,
-                    types,
-                    node_kinds,
-                    node_loads,
-                    start,
-                    same,
-                    unused - 1,
-                );
-                let Parsed::Node {
-                    root: _,
-                    cursor: after,
-                    count: used,
-                } = inner
-                else {
-                    return inner;
-                };
-                push(node_kinds, node_loads, after, used, kind, load)
-            }
-            ArraySize::NoSize { refusal } => refusal,
-        },
-        _ => Parsed::Refused {
-            number: Refusal::ExpectedType,
-            start: cursor,
-            end: cursor,
-            cursor: next,
-            count,
-        },
+        Start::NoType(refusal) => refusal,
     }
+}
+
+// The span of a type that begins at the token `start` and ends before the cursor.
+fn push_span(
+    node_kinds: &mut [u8],
+    node_loads: &mut [u32],
+    cursor: TokenId,
+    count: u32,
+    start: u32,
+) -> Parsed
+    requires { ⌜ Slots (now «node_kinds») (now «node_loads») count ⌝ }
+    ensures { λ r. ⌜ Gives (spanning start (cursor .0)) (cursor .0) (nodes (now («node_kinds» .entry)) (now («node_loads» .entry)) count) r (now («node_kinds» .exit)) (now («node_loads» .exit)) ⌝ }
+{
+    let span = push(
+        node_kinds,
+        node_loads,
+        cursor,
+        count,
+        ParseNode::EndOfSpan,
+        cursor.0,
+    );
+    let Parsed::Node {
+        root: _,
+        cursor: after,
+        count: used,
+    } = span
+    else {
+        return span;
+    };
+    push(
+        node_kinds,
+        node_loads,
+        after,
+        used,
+        ParseNode::CompositeValueType,
+        start,
+    )
 }
 
 // A type; one of several tokens gets its span.
@@ -238,30 +225,7 @@ pub fn parse_type(
     let start = cursor.0;
     let end = after.0;
     if start + 1 < end {
-        let span = push(
-            node_kinds,
-            node_loads,
-            after,
-            used,
-            ParseNode::EndOfSpan,
-            end,
-        );
-        let Parsed::Node {
-            root: _,
-            cursor: last,
-            count: more,
-        } = span
-        else {
-            return span;
-        };
-        push(
-            node_kinds,
-            node_loads,
-            last,
-            more,
-            ParseNode::CompositeValueType,
-            start,
-        )
+        push_span(node_kinds, node_loads, after, used, start)
     } else {
         inner
     }

@@ -1,4 +1,4 @@
-use Rattle.types.proofs.Laws.{closed, not-closed}
+use Rattle.types.proofs.Sizes.{closed, not-closed}
 use borrow.Author.Needs.{needs}
 use Rattle.types.proofs.close_array.Statement.{statement}
 use Rattle.types.proofs.close_array.Tie as tie

@@ -1,4 +1,4 @@
-use Rattle.types.proofs.Laws.{slice, endless, fixed, named, no-size, size-read, size-refused}
+use Rattle.types.proofs.Sizes.{slice, endless, fixed, named, no-size, size-read, size-refused}
 use borrow.Author.Needs.{needs}
 use Rattle.types.proofs.parse_array_size.Statement.{statement}
 use Rattle.types.proofs.parse_array_size.Tie as tie
