@@ -1,8 +1,8 @@
 -- Loops: what a loop of the code keeps between its rounds, for every loop.
-use mathlib.Core.Path.{_≡_, refl, sym, _∙_}
+use mathlib.Core.Path.{_≡_}
 use Prim.Native.Nat.{ℕ, suc, _+_, _-_, _≤_, _<_}
 use native.Mathlib.Omega.{arith}
-use Rattle.codes.proofs.Onto.{Onto, _then_, stays, first, reads, stops, regroup}
+use Rattle.codes.proofs.Onto.{Onto, _then_, first, reads, stops}
 use Rattle.rules.specs.Reading.{Rule, Step, again, done, onward, repeat, pure, refuse, _>>=_}
 use Rattle.rules.specs.Columns.{Nodes}
 

@@ -1,14 +1,13 @@
 -- How a reader's answer follows from the answers of the readers that it calls.
 use mathlib.Core.Path.{_≡_, refl, sym, _∙_, ap}
-use mathlib.Core.Bool.{Bool, true, false}
+use mathlib.Core.Bool.{Bool}
 use mathlib.Core.List.{List, [], _∷_}
 use Prim.Native.Nat.{ℕ, _+_, _≤_}
 use native.Mathlib.Omega.{arith}
 use lib.ListN.{length}
-use lib.Dec.{eqb}
-use borrow.Author.Tests.{ne-eqb, eq-eqb}
+use borrow.Author.Tests.{ne-eqb}
 use Rattle.codes.specs.declared.Parsed.{Parsed}
-use Rattle.codes.specs.declared.Parsed.the-variants.{Node, Refused}
+use Rattle.codes.specs.declared.Parsed.the-variants.{Refused}
 use Rattle.codes.specs.declared.NodeId.{NodeId}
 use Rattle.codes.specs.declared.TokenId.{TokenId}
 use Rattle.codes.specs.Answer.{Form, As, Gives, Sized, answer, refusal, parsed, nodes, token, nodeId}
@@ -16,7 +15,7 @@ use Rattle.rules.specs.Codes.{pick, entry}
 use Rattle.rules.specs.Reading.{Result, ok, no, Outcome, Rule, next, Row, kindOf, _>>=_, here, take, peek, choose}
 use Rattle.rules.specs.Reading.{pure, refuse}
 use Rattle.rules.specs.Columns.{Nodes}
-use Rattle.rules.proofs.Forward.{Goes, Left, Grown}
+use Rattle.rules.proofs.Forward.{Goes, Grown}
 
 infixr 20 _then_
 -- From the cursor c and the columns s, m goes on as m' from c' and s': the outcomes are the same.

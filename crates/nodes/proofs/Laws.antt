@@ -1,9 +1,7 @@
 -- How the answers over lists follow from those of an append.
-use mathlib.Core.Path.{_≡_, refl, sym, _∙_, ap}
+use mathlib.Core.Path.{_≡_, refl}
 use mathlib.Core.List.{List}
-use mathlib.Core.Option.{Option, some, none}
 use Prim.Native.Nat.{ℕ, _+_, _≤_, _<_}
-use native.Mathlib.Omega.{arith}
 use lib.ListN.{length, set}
 use borrow.Author.Tests.{lt-ltb, le-ltb}
 use Rattle.codes.specs.declared.Parsed.{Parsed}
@@ -11,17 +9,16 @@ use Rattle.codes.specs.declared.Parsed.the-variants.{Node, Refused}
 use Rattle.codes.specs.declared.NodeId.{NodeId}
 use Rattle.codes.specs.declared.TokenId.{TokenId}
 use Rattle.codes.specs.Answer.{As, Gives, nodes, token, nodeId, refusal}
-use Rattle.codes.proofs.Onto.{Onto, _then_, stays, reads, answers, declines, shows, told, hands-on, came-read}
-use Rattle.codes.proofs.Onto.{plain-parsed, Plain, Holding}
+use Rattle.codes.proofs.Onto.{stays, reads, answers, declines, shows, told, hands-on, came-read}
+use Rattle.codes.proofs.Onto.{plain-parsed}
 use Rattle.nodes.specs.declared.ActiveList.{ActiveList}
 use Rattle.nodes.specs.declared.ActiveList.the-variants.{Empty, Open}
-use Rattle.nodes.specs.declared.Listed.{Listed}
 use Rattle.nodes.specs.declared.Listed.the-variants.{List as Items, Full}
-use Rattle.nodes.specs.Answer.{ends, active, past, listed}
+use Rattle.nodes.specs.Answer.{ends, past, listed}
 use Rattle.rules.specs.Codes.ParseNode as ParseNode
 use Rattle.rules.specs.Codes.Refusal as Refusal
 use Rattle.rules.specs.Reading.{_>>=_}
-use Rattle.rules.specs.Columns.{Nodes, Ends, append, patch, extended, ended, pushListItem, pushEndOfList}
+use Rattle.rules.specs.Columns.{append, patch, extended, ended, pushListItem, pushEndOfList}
 
 -- an append, by whether there is a slot
 module _ (k l c : ℕ) (ks ls : List ℕ) (n : ℕ) where

@@ -1,8 +1,8 @@
 -- How the answers on operators follow from those of the functions that they call, a law for each return.
 use mathlib.Core.Path.{_≡_, refl, sym, _∙_, ap}
-use mathlib.Core.Bool.{Bool, true, false}
+use mathlib.Core.Bool.{true, false}
 use mathlib.Core.List.{List, [], _∷_}
-use Prim.Native.Nat.{ℕ, _+_, _≤_}
+use Prim.Native.Nat.{ℕ, _+_}
 use native.Mathlib.Omega.{arith}
 use borrow.Author.Tests.{eq-eqb, ne-eqb}
 use Rattle.codes.specs.declared.Parsed.{Parsed}
@@ -10,8 +10,8 @@ use Rattle.codes.specs.declared.Parsed.the-variants.{Node, Refused}
 use Rattle.codes.specs.declared.NodeId.{NodeId}
 use Rattle.codes.specs.declared.TokenId.{TokenId}
 use Rattle.codes.specs.Answer.{As, Gives, Quiet, Untyped, nodes, token, nodeId, row}
-use Rattle.codes.proofs.Onto.{Onto, _then_, stays, reads, at-here, takes, peeks, answers, shows, told, held, hands-on}
-use Rattle.codes.proofs.Onto.{came-read, plain-parsed, Plain, Holding, Rest, beside, picked}
+use Rattle.codes.proofs.Onto.{Onto, _then_, stays, reads, at-here, takes, peeks, answers, shows, told, hands-on}
+use Rattle.codes.proofs.Onto.{came-read, plain-parsed, Holding, Rest, beside, picked}
 use Rattle.tokens.specs.Answer.{kindIn}
 use Rattle.operators.specs.declared.Bitwise.{Bitwise}
 use Rattle.operators.specs.declared.Bitwise.the-variants.{And, Or, Xor}
@@ -24,7 +24,7 @@ use Rattle.operators.specs.Answer.{factorJoined, termJoined}
 use Rattle.rules.specs.Codes.BaseToken as BaseToken
 use Rattle.rules.specs.Codes.BinaryOp as BinaryOp
 use Rattle.rules.specs.Codes.ParseNode as ParseNode
-use Rattle.rules.specs.Reading.{Row, Rule, Step, again, done, pure, _>>=_, choose, take}
+use Rattle.rules.specs.Reading.{Row, Rule, Step, again, done, pure, choose}
 use Rattle.rules.specs.Columns.{Nodes, append, columns}
 use Rattle.rules.specs.Expressions as Rules
 use Rattle.rules.specs.Expressions.{binary, prefix, joinedTo, after, nextFactor, nextTerm, nextBit, follows, tokenOf}

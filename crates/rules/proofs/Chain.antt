@@ -1,18 +1,18 @@
 -- Lists of any contents: begun, added to and closed.
-use Prim.Native.Nat.{ℕ, zero, suc, _+_, _-_, _≤_, _<_}
+use Prim.Native.Nat.{ℕ, _+_, _-_}
 use native.Mathlib.Omega.{arith}
-use mathlib.Core.Path.{_≡_, refl, sym, _∙_, ap}
+use mathlib.Core.Path.{_≡_, refl, sym}
 use mathlib.Core.List.{List, [], _∷_}
 use mathlib.Core.Option.{Option, some, none}
 use borrow.Author.Tests.{le-leb}
 use Rattle.rules.specs.Reading.{Rule, _>>=_, pure}
-use Rattle.rules.specs.Trees.{Tree, Forest, node, fnil, fcons, items}
+use Rattle.rules.specs.Trees.{Tree, node, fnil, items}
 use Rattle.rules.specs.Codes.ParseNode as ParseNode
-use Rattle.rules.specs.Columns.{Nodes, Ends, append, patch, extended, ended, pushListItem, pushEndOfList}
+use Rattle.rules.specs.Columns.{Nodes, Ends, patch, extended, ended, pushListItem, pushEndOfList}
 use Rattle.rules.specs.Ways.{parts}
-use Rattle.rules.proofs.Ways.{Numbered, numbered, rnil, rcons, root, strip, Stands, times, one}
+use Rattle.rules.proofs.Ways.{Numbered, numbered, rnil, rcons, root, strip, Stands, times}
 use Rattle.rules.proofs.Laid.{Claim, nothing, cell, tree, _⋆_, holds, counts, On, turn, appended, patched, kept}
-use Rattle.rules.proofs.Sim.{Sim, Both, Via, _then_}
+use Rattle.rules.proofs.Sim.{Sim, Via, _then_}
 use Rattle.rules.proofs.Grow.{At, Yields, above, append-sim}
 
 -- the item n, not yet patched

@@ -1,6 +1,6 @@
 -- The rules for declarations, with columns and with trees.
 use Prim.Native.Nat.{ℕ}
-use mathlib.Core.Path.{_≡_, refl}
+use mathlib.Core.Path.{refl}
 use mathlib.Core.List.{List, [], _∷_}
 use Rattle.rules.specs.Reading.{Row}
 use Rattle.rules.specs.Trees.{trees}

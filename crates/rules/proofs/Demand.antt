@@ -1,12 +1,11 @@
 -- What is proved of the five rules: see specs/Demand.
-use Prim.Native.Nat.{ℕ, _+_, _≤_, _<_}
+use Prim.Native.Nat.{ℕ, _≤_, _<_}
 use native.Mathlib.Omega.{arith}
 use native.Mathlib.Decide.{decLe}
-use mathlib.Core.Logic.{_⊎_, inl, inr, _≢_}
-use mathlib.Core.Path.{_≡_, refl, sym, _∙_}
-use mathlib.Core.List.{List, [], _∷_}
+use mathlib.Core.Logic.{inl, inr, _≢_}
+use mathlib.Core.Path.{_≡_, refl, sym}
+use mathlib.Core.List.{[], _∷_}
 use lib.ListN.{length}
-use lib.Dec.{eqb}
 use borrow.Author.Tests.{eqb-false}
 use Rattle.rules.specs.Codes.Refusal as Refusal
 use Rattle.rules.specs.Reading.{Rule, Row, Result, ok, no, kindOf}
@@ -24,9 +23,9 @@ use Rattle.rules.proofs.Grow.{Follows, At, Yields}
 use Rattle.rules.proofs.Types.{type-rule}
 use Rattle.rules.proofs.Expressions.{expression-rule}
 use Rattle.rules.proofs.Declarations.{constant-rule, struct-rule, word-rule}
-use Rattle.rules.proofs.Forward.{Stop, Goes, Left, Nonzero}
-use Rattle.rules.proofs.Moves.{Moves, type-moves, expression-moves, constant-moves, struct-moves, word-moves}
-use Rattle.rules.proofs.Starts.{Refuses, Refused}
+use Rattle.rules.proofs.Forward.{Stop, Goes, Left}
+use Rattle.rules.proofs.Moves.{type-moves, expression-moves, constant-moves, struct-moves, word-moves}
+use Rattle.rules.proofs.Starts.{Refuses}
 use Rattle.rules.proofs.Starts as Starts
 
 -- the frame of columns in which nothing was appended

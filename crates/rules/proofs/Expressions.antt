@@ -7,7 +7,7 @@ use mathlib.Core.Option.{Option}
 use lib.Dec.{eqb, ltb}
 use Rattle.rules.specs.Codes.{pick, back, partsOf}
 use Rattle.rules.specs.Codes.Limit as Limit
-use Rattle.rules.specs.Reading.{Rule, Row, Step, pure, done}
+use Rattle.rules.specs.Reading.{Rule, Row, pure, done}
 use Rattle.rules.specs.Trees.{Tree, trees}
 use Rattle.rules.specs.Columns.{Nodes, Ends, columns}
 use Rattle.rules.specs.Expressions.{Owner, call, structural, elements, closingOf}
@@ -17,7 +17,7 @@ use Rattle.rules.specs.Expressions.{separator, itemEnd, listItem, commaL
 use Rattle.rules.specs.Expressions.{string, strings, typedInteger, stepEnd, elementEnd, member, after}
 use Rattle.rules.specs.Expressions.{nextFactor, nextTerm, nextBit, follows, factorEnd, termEnd}
 use Rattle.rules.specs.Expressions.{sizeOf, typeCast, coerced, singularEnd, step, steps, stepped, reference}
-use Rattle.rules.specs.Expressions.{advanced, pointer, field, itemOf, items, named, builtin, parenthesized}
+use Rattle.rules.specs.Expressions.{advanced, pointer, field, items, named, builtin, parenthesized}
 use Rattle.rules.specs.Expressions.{primary, prefixed, lengthOf, unary, singular, factor, product, term, sum}
 use Rattle.rules.specs.Expressions.{expression}
 use Rattle.rules.proofs.Ways.{Numbered, root, strip}

@@ -1,24 +1,23 @@
 -- The builder's steps: what the columns hold after each is the tree that the trees' builder gives.
-use Prim.Native.Nat.{ℕ, zero, suc, _+_, _-_, _≤_, _<_}
+use Prim.Native.Nat.{ℕ, suc, _+_, _-_, _<_}
 use native.Mathlib.Omega.{arith}
 use mathlib.Core.Bool.{Bool, true, false}
-use mathlib.Core.Logic.{_⊎_, inl, inr}
-use mathlib.Core.Path.{_≡_, refl, sym, _∙_, ap}
+use mathlib.Core.Logic.{inl}
+use mathlib.Core.Path.{_≡_, refl}
 use mathlib.Core.List.{List, [], _∷_, map}
-use mathlib.Core.Option.{Option, some, none}
 use lib.ListN.{length}
-use lib.Dec.{eqb, leb, ltb}
-use borrow.Author.Tests.{ltb-true, lt-ltb, le-leb}
-use Rattle.rules.specs.Reading.{Rule, ok, no, _>>=_, pure}
-use Rattle.rules.specs.Codes.{pick, Part, back, linked, partsOf}
+use lib.Dec.{ltb}
+use borrow.Author.Tests.{ltb-true, le-leb}
+use Rattle.rules.specs.Reading.{Rule, ok, pure}
+use Rattle.rules.specs.Codes.{Part, back, linked, partsOf}
 use Rattle.rules.specs.Demand.{Kept}
-use Rattle.rules.specs.Trees.{Tree, Forest, node, fnil, fcons}
+use Rattle.rules.specs.Trees.{Tree, node, fnil, fcons}
 use Rattle.rules.specs.Columns.{Nodes, written, append}
-use Rattle.rules.specs.Ways.{links, kindAt, loadAt, shown, place, parts}
+use Rattle.rules.specs.Ways.{links, place, parts}
 use Rattle.rules.proofs.Ways.{Numbered, Row, numbered, rnil, rcons, root, roots, strip, strips}
-use Rattle.rules.proofs.Ways.{Stands, All, times, timesAll}
-use Rattle.rules.proofs.Laid.{Claim, nothing, cell, tree, _⋆_, holds, counts, On, turn, appended, kept}
-use Rattle.rules.proofs.Sim.{Sim, Both, Via, _then_}
+use Rattle.rules.proofs.Ways.{All, timesAll}
+use Rattle.rules.proofs.Laid.{Claim, tree, _⋆_, holds, counts, On, turn, appended, kept}
+use Rattle.rules.proofs.Sim.{Sim, Both, Via}
 
 abbrev pub row : List Numbered → Row
 row [] = rnil

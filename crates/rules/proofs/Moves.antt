@@ -4,13 +4,12 @@ use native.Mathlib.Omega.{arith}
 use mathlib.Core.Bool.{Bool, true, false}
 use mathlib.Core.Path.{_≡_, refl}
 use mathlib.Core.Option.{Option, none}
-use mathlib.Core.List.{List, [], _∷_}
 use lib.ListN.{length}
-use lib.Dec.{ltb, eqb}
+use lib.Dec.{ltb}
 use Rattle.rules.specs.Codes.{pick, refusalOf}
 use Rattle.rules.specs.Codes.Limit as Limit
-use Rattle.rules.specs.Reading.{Rule, Row, Step, again, done}
-use Rattle.rules.specs.Columns.{Nodes, Ends, columns, append, pushEndOfList}
+use Rattle.rules.specs.Reading.{Rule, Row, Step}
+use Rattle.rules.specs.Columns.{Nodes, Ends, columns, append}
 use Rattle.rules.specs.Types.{bracketed, arraySize, pointerTo, viewOf, arrayOf, innerFrom, innerType, type}
 use Rattle.rules.specs.Expressions.{Owner, call, structural, elements, closingOf}
 use Rattle.rules.specs.Expressions.{Bitwise, bitAnd, bitOr, bitXor, tokenOf, opOf}
@@ -20,7 +19,7 @@ use Rattle.rules.specs.Expressions.{separator, itemEnd, listItem, commaL
 use Rattle.rules.specs.Expressions.{string, strings, typedInteger, stepEnd, elementEnd, member, after}
 use Rattle.rules.specs.Expressions.{nextFactor, nextTerm, nextBit, follows, factorEnd, termEnd}
 use Rattle.rules.specs.Expressions.{sizeOf, typeCast, coerced, singularEnd, step, steps, stepped, reference}
-use Rattle.rules.specs.Expressions.{advanced, pointer, field, itemOf, items as items', named, builtin}
+use Rattle.rules.specs.Expressions.{advanced, pointer, field, items as items', named, builtin}
 use Rattle.rules.specs.Expressions.{parenthesized}
 use Rattle.rules.specs.Expressions.{primary, prefixed, lengthOf, unary, singular, factor, product, term, sum}
 use Rattle.rules.specs.Expressions.{expression}
@@ -28,7 +27,7 @@ use Rattle.rules.specs.Declarations.{colon, constant, memberItem, member
 use Rattle.rules.specs.Declarations as Declarations
 use Rattle.rules.proofs.Forward.{Stop, Goes, Nonzero, Round, _then_, eased, pures, refuses, at-here, picks}
 use Rattle.rules.proofs.Forward.{appends, items, closes, consumes, optionally, takes, peeks, tested}
-use Rattle.rules.proofs.Forward.{Cases, refused, other, _or_, taking, peeking, earlier, strict, loops, bounded}
+use Rattle.rules.proofs.Forward.{refused, other, _or_, taking, peeking, earlier, strict, loops, bounded}
 
 module _ {row : Row} {n : ℕ} (stop : Stop row n) (size : n ≤ length (row .kinds)) where
   -- a token at least is taken

@@ -1,12 +1,11 @@
 -- At EndOfSource, and so past the row's end, each rule refuses.
 use Prim.Native.Nat.{ℕ, zero, suc, _+_}
-use mathlib.Core.Bool.{Bool, true, false}
+use mathlib.Core.Bool.{Bool, false}
 use mathlib.Core.Path.{_≡_, refl}
-use mathlib.Core.List.{List, [], _∷_}
 use lib.Dec.{eqb}
-use Rattle.rules.specs.Codes.{pick, refusalOf}
+use Rattle.rules.specs.Codes.{refusalOf}
 use Rattle.rules.specs.Codes.BaseToken as BaseToken
-use Rattle.rules.specs.Reading.{Rule, Result, ok, no, next, _>>=_, refuse, here}
+use Rattle.rules.specs.Reading.{Rule, Result, ok, no, next, _>>=_, here}
 use Rattle.rules.specs.Reading.{Row, kindOf, peek, take, consume, optional, choose}
 use Rattle.rules.specs.Reading.{Step, repeat, loop}
 use Rattle.rules.specs.Columns.{Nodes, columns}

@@ -1,7 +1,7 @@
 -- The rules for types, with columns and with trees.
 use Prim.Native.Nat.{ℕ, zero, suc, _+_}
 use mathlib.Core.Path.{_≡_, refl}
-use mathlib.Core.List.{List, [], _∷_}
+use mathlib.Core.List.{[], _∷_}
 use lib.Dec.{ltb}
 use Rattle.rules.specs.Codes.{back, partsOf}
 use Rattle.rules.specs.Reading.{Rule, Row}

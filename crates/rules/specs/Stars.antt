@@ -9,7 +9,7 @@ use Rattle.rules.specs.Codes.BaseToken as T
 use Rattle.rules.specs.Codes.ValueTypeKeyword as ValueTypeKeyword
 use Rattle.rules.specs.Codes.ParseNode as ParseNode
 use Rattle.rules.specs.Codes.Limit as Limit
-use Rattle.rules.specs.Reading.{Rule, Row, Outcome, Result, ok, no}
+use Rattle.rules.specs.Reading.{Rule, Row, Result, ok, no}
 use Rattle.rules.specs.Types.{type}
 use Rattle.rules.specs.Expressions.{expression}
 use Rattle.rules.specs.Declarations.{struct}

@@ -16,7 +16,7 @@ use Rattle.tokens.specs.declared.Optional.{Optional}
 use Rattle.tokens.specs.Answer.{kindIn, consumed, consuming, Optionally}
 use Rattle.tokens.proofs.Laws.{holding-consumed, not-found, found-next}
 use Rattle.rules.specs.Codes.{pick, refusalOf}
-use Rattle.rules.specs.Reading.{Outcome, Result, ok, no, consume}
+use Rattle.rules.specs.Reading.{Outcome, ok, no, consume}
 use Rattle.rules.specs.Columns.{Nodes}
 use Rattle.rules.proofs.Forward.{Nonzero, consumes}
 use Rattle.rules.proofs.Demand.{below}

@@ -1,20 +1,17 @@
 -- The steps over tokens: what they read, by the token's kind.
 use mathlib.Core.Path.{_≡_, refl, sym, _∙_, ap}
-use mathlib.Core.Bool.{Bool, true, false}
+use mathlib.Core.Bool.{true, false}
 use mathlib.Core.List.{List}
-use Prim.Native.Nat.{ℕ, _+_, _<_}
+use Prim.Native.Nat.{ℕ, _+_}
 use native.Mathlib.Omega.{arith}
-use lib.ListN.{length}
 use lib.Dec.{eqb}
 use borrow.Author.Tests.{eq-eqb, ne-eqb, eqb-true}
 use Rattle.rules.specs.Codes.{refusalOf}
-use Rattle.rules.specs.Reading.{Rule, Row, ok, no, kindOf, pure, refuse, _>>=_, consume, optional}
+use Rattle.rules.specs.Reading.{ok, pure, consume, optional}
 use Rattle.rules.specs.Columns.{Nodes}
-use Rattle.codes.specs.declared.Parsed.{Parsed}
 use Rattle.codes.specs.declared.TokenId.{TokenId}
 use Rattle.codes.specs.Answer.{Quiet, token, row, refusal}
-use Rattle.codes.proofs.Onto.{Onto, Plain, Holding, answers, declines, reads}
-use Rattle.tokens.specs.declared.Consumed.{Consumed}
+use Rattle.codes.proofs.Onto.{Onto, Holding, answers, declines}
 use Rattle.tokens.specs.declared.Consumed.the-variants.{Next, Wrong}
 use Rattle.tokens.specs.declared.Optional.{Optional}
 use Rattle.tokens.specs.Answer.{kindIn, consumed, consuming, Optionally}
