@@ -1,3 +1,4 @@
+-- `nodes::push` meets its contract: a law for each return, found among the facts of its path.
 use Rattle.nodes.proofs.Laws.{appended, full}
 use borrow.Author.Needs.{needs}
 use Rattle.nodes.proofs.push.Statement.{statement}

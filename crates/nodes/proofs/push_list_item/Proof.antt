@@ -1,3 +1,4 @@
+-- `nodes::push_list_item` meets its contract: a law for each return, found among the facts of its path.
 use native.Mathlib.Omega.{arith}
 use Rattle.nodes.proofs.Laws.{past-last}
 use Rattle.nodes.proofs.Laws.{item-refused, item-first, item-more}

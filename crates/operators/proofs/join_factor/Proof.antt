@@ -1,3 +1,4 @@
+-- `operators::join_factor` meets its contract: a law for each return, found among the facts of its path.
 use Rattle.operators.proofs.Bounds.{joined-at}
 use Rattle.operators.proofs.Laws.{factor-stopped, factor-joined}
 use borrow.Author.Needs.{needs}

@@ -1,3 +1,4 @@
+-- `operators::join_term` meets its contract: a law for each return, found among the facts of its path.
 use Rattle.operators.proofs.Bounds.{joined-at}
 use Rattle.operators.proofs.Laws.{term-stopped, sum-joined, bit-joined, shift-joined, at-first, in-sum}
 use borrow.Author.Needs.{needs}

@@ -1,3 +1,4 @@
+-- `operators::next_bit` meets its contract: a law for each return, found among the facts of its path.
 use Rattle.operators.proofs.Laws.{bit-next, bit-none}
 use borrow.Author.Needs.{needs}
 use Rattle.operators.proofs.next_bit.Statement.{statement}

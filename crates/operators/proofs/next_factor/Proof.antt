@@ -1,3 +1,4 @@
+-- `operators::next_factor` meets its contract: a law for each return, found among the facts of its path.
 use Rattle.operators.proofs.Laws.{factor-next, factor-none, times, divide, modulo}
 use borrow.Author.Needs.{needs}
 use Rattle.operators.proofs.next_factor.Statement.{statement}

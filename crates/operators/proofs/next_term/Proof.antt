@@ -1,3 +1,4 @@
+-- `operators::next_term` meets its contract: a law for each return, found among the facts of its path.
 use Rattle.operators.proofs.Laws.{term-next, term-none, ampersand, pipe, caret, left-shift, right-shift, plus, minus}
 use borrow.Author.Needs.{needs}
 use Rattle.operators.proofs.next_term.Statement.{statement}

@@ -1,3 +1,4 @@
+-- `operators::push_binary` meets its contract: a law for each return, found among the facts of its path.
 use Rattle.nodes.proofs.Bounds.{push-slots}
 use Rattle.operators.proofs.Laws.{item-stopped, operator-stopped, binary-pushed}
 use borrow.Author.Needs.{needs}

@@ -1,3 +1,4 @@
+-- `operators::push_pending` meets its contract: a law for each return, found among the facts of its path.
 use Rattle.operators.proofs.Laws.{first-operand, operand-joined, bits-joined, sum, shifted}
 use borrow.Author.Needs.{needs}
 use Rattle.operators.proofs.push_pending.Statement.{statement}

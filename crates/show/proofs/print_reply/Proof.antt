@@ -1,3 +1,4 @@
+-- `show::print_reply` meets its contract: a law for each return, found among the facts of its path.
 use mathlib.Core.Path.{refl}
 use borrow.Author.Needs.{needs}
 use Rattle.show.proofs.print_reply.Statement.{statement}

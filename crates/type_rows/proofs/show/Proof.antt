@@ -1,3 +1,4 @@
+-- `type_rows::show` meets its contract: a law for each return, found among the facts of its path.
 use native.Mathlib.Omega.{arith}
 use lib.ListN.{length-take}
 use borrow.Author.Needs.{needs}

@@ -1,3 +1,4 @@
+-- `types::parse_inner_type` meets its contract: a law for each return, found among the facts of its path.
 use Rattle.types.proofs.Bounds.{leaf-slots, at-element, element-slots, element-at}
 use Rattle.types.proofs.Laws.{too-deep, refused, leaf-read, element-stopped, element-read}
 use borrow.Author.Needs.{needs}

@@ -1,3 +1,4 @@
+-- `types::finish_inner_type` meets its contract: a law for each return, found among the facts of its path.
 use Rattle.tokens.proofs.Bounds.{same-count}
 use Rattle.nodes.proofs.Bounds.{same-slots}
 use Rattle.types.proofs.Laws.{no-view, view-open, view-read}

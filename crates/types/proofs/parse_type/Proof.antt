@@ -1,3 +1,4 @@
+-- `types::parse_type` meets its contract: a law for each return, found among the facts of its path.
 use Rattle.types.proofs.Bounds.{inner-slots}
 use Rattle.types.proofs.Laws.{type-stopped, type-single, type-read}
 use borrow.Author.Needs.{needs}

@@ -1,3 +1,4 @@
+-- `types::push_span` meets its contract: a law for each return, found among the facts of its path.
 use Rattle.nodes.proofs.Bounds.{push-slots}
 use Rattle.types.proofs.Laws.{span-stopped, span-read}
 use borrow.Author.Needs.{needs}

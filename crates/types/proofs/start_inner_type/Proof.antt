@@ -1,3 +1,4 @@
+-- `types::start_inner_type` meets its contract: a law for each return, found among the facts of its path.
 use Rattle.types.proofs.Bounds.{next-token}
 use Rattle.types.proofs.Laws.{keyword, name, pointer, view, begins, array-begins, no-type}
 use borrow.Author.Needs.{needs}
