@@ -19,7 +19,7 @@ use Rattle.nodes.specs.declared.Listed.the-variants.{List as Items, Full
 use Rattle.nodes.specs.Answer.{ends, active, past, listed, appendTwo}
 use Rattle.rules.specs.Codes.ParseNode as ParseNode
 use Rattle.rules.specs.Codes.Refusal as Refusal
-use Rattle.rules.specs.Reading.{_>>=_}
+use Rattle.rules.specs.Reading.{Rule, pure, _>>=_}
 use Rattle.rules.specs.Columns.{Nodes, Ends, append, patch, extended, ended, pushListItem, pushEndOfList}
 
 -- an append, by whether there is a slot
@@ -55,6 +55,10 @@ pub ends-active : (l : Option Ends) → ends (active l) ≡ l
 ends-active none = refl
 ends-active (some e) = refl
 
+pub active-ends : (l : ActiveList) → active (ends l) ≡ l
+active-ends Empty = refl
+active-ends (Open f e) = refl
+
 pub holding-listed : Holding listed
 holding-listed = record {
   plain = record {
@@ -68,10 +72,21 @@ holding-listed = record {
   holds = λ a c k r e. let z : _≡_ {A = ℕ} 0 1 = cc in omega arith;
 }
 
+-- the list with one item more, by the answer
+pub came-listed :
+    {m : Rule Nodes (Option Ends)} {c : ℕ} {s : Nodes} {o : Listed} {ks ls : List ℕ} → As listed m c s o ks ls →
+    {l : ActiveList} {p : TokenId} {j : ℕ} → o ≡ Items l p j → Onto m c s (pure (ends l)) (p .0) (nodes ks ls j)
+came-listed g {l} {p} {j} q = came-read (holding-listed .plain) g (q ∙ ap (λ m. Items m p j) (sym (active-ends l)))
+
 -- the place after the last item
 pub past-last : {l : ActiveList} {f e : NodeId} → l ≡ Open f e → past l ≡ e .0 + 1
 unfolding past
 past-last q = rw q
+
+pub past-none : (l : ActiveList) → ends l ≡ none → past l ≡ 0
+unfolding past
+past-none Empty q = refl
+past-none (Open f e) q = let z : _≡_ {A = ℕ} 0 1 = cc in absurd (omega arith)
 
 -- what a patch leaves
 abbrev pub Patched : List ℕ → List ℕ → ℕ → ℕ → List ℕ → List ℕ → Type 0
