@@ -1,6 +1,6 @@
 use mathlib.Core.Path.{refl}
 use native.Mathlib.Omega.{arith}
-use Rattle.references.proofs.Bounds.{closed-slots, closed-grows}
+use Rattle.references.proofs.Bounds.{after-closed}
 use Rattle.references.proofs.Laws.{element-refused, element-read}
 use borrow.Author.Needs.{needs}
 use Rattle.references.proofs.finish_element.Statement.{statement}
@@ -10,7 +10,8 @@ returns : tie.Need-returns
 returns c = search (needs, element-refused)
 
 push-step-requires : tie.Need-push-step-requires
-push-step-requires c κs = (closed-slots _ _ _ (c .before .before .before .before .before .before .before .before .before .push-closed .ensures) (c .before .before .before .step .given .1) refl (c .before .before .before .before .before .before .before .before .before .before .before .before .before .before .before .pre .1), omega (arith, closed-grows _ _ _ (c .before .before .before .before .before .before .before .before .before .push-closed .ensures) (c .before .before .before .step .given .1) refl (c .before .before .before .before .before .before .before .before .before .before .before .before .before .before .before .pre .1)))
+push-step-requires c κs =
+    let (a, b, _) = after-closed _ _ _ (c .before .before .before .before .before .before .before .before .before .push-closed .ensures) (c .before .before .before .step .given .1) refl (c .before .before .before .before .before .before .before .before .before .before .before .before .before .before .before .pre .1) in (a, omega arith)
 
 returns-2 : tie.Need-returns-2
 returns-2 c = search (needs, element-read)

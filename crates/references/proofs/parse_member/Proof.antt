@@ -1,6 +1,6 @@
 use native.Mathlib.Omega.{arith}
 use Rattle.tokens.proofs.Bounds.{same-count}
-use Rattle.nodes.proofs.Bounds.{same-slots, push-slots, push-grows}
+use Rattle.nodes.proofs.Bounds.{same-slots, after-push}
 use Rattle.references.proofs.Laws.{member-unnamed, member-refused, member-read}
 use borrow.Author.Needs.{needs}
 use Rattle.references.proofs.parse_member.Statement.{statement}
@@ -13,7 +13,10 @@ returns : tie.Need-returns
 returns c = search (needs, member-refused)
 
 push-step-requires : tie.Need-push-step-requires
-push-step-requires c κs = (push-slots _ _ (c .before .before .before .before .before .before .before .before .before .push .ensures) (c .before .before .before .step .given .1) (same-slots (same-count _ (c .before .before .before .before .before .before .before .before .before .before .before .before .before .before .before .consume .ensures) (c .before .before .before .before .before .before .before .before .before .before .before .before .before .named .given .1)) (c .before .before .before .before .before .before .before .before .before .before .before .before .before .before .before .before .before .before .before .pre .1)), omega (arith, push-grows _ _ (c .before .before .before .before .before .before .before .before .before .push .ensures) (c .before .before .before .step .given .1) (same-slots (same-count _ (c .before .before .before .before .before .before .before .before .before .before .before .before .before .before .before .consume .ensures) (c .before .before .before .before .before .before .before .before .before .before .before .before .before .named .given .1)) (c .before .before .before .before .before .before .before .before .before .before .before .before .before .before .before .before .before .before .before .pre .1)), same-count _ (c .before .before .before .before .before .before .before .before .before .before .before .before .before .before .before .consume .ensures) (c .before .before .before .before .before .before .before .before .before .before .before .before .before .named .given .1)))
+push-step-requires c κs =
+    let e = same-count _ (c .before .before .before .before .before .before .before .before .before .before .before .before .before .before .before .consume .ensures) (c .before .before .before .before .before .before .before .before .before .before .before .before .before .named .given .1) in
+    let (a, b, _) = after-push _ _ (c .before .before .before .before .before .before .before .before .before .push .ensures) (c .before .before .before .step .given .1) (same-slots e (c .before .before .before .before .before .before .before .before .before .before .before .before .before .before .before .before .before .before .before .pre .1)) in
+    (a, omega arith)
 
 returns-2 : tie.Need-returns-2
 returns-2 c = search (needs, member-read)
