@@ -1,0 +1,191 @@
+-- How the answers over lists follow from those of the readers that they call, a law for each return.
+use mathlib.Core.Path.{_≡_, refl, sym, _∙_, ap}
+use mathlib.Core.Bool.{true, false}
+use mathlib.Core.List.{List}
+use mathlib.Core.Option.{Option}
+use Prim.Native.Nat.{ℕ, _+_}
+use native.Mathlib.Omega.{arith}
+use Rattle.codes.specs.declared.Parsed.{Parsed}
+use Rattle.codes.specs.declared.Parsed.the-variants.{Node, Refused}
+use Rattle.codes.specs.declared.NodeId.{NodeId}
+use Rattle.codes.specs.declared.TokenId.{TokenId}
+use Rattle.codes.specs.Answer.{As, Gives, Untyped, Quiet, nodes, token, row}
+use Rattle.codes.proofs.Onto.{_then_, stays, reads, answers, shows, picked}
+use Rattle.codes.proofs.Onto.{told, held, hands-on, came-read, plain-parsed, Holding}
+use Rattle.tokens.specs.declared.Consumed.{Consumed}
+use Rattle.tokens.specs.declared.Consumed.the-variants.{Next, Wrong}
+use Rattle.tokens.specs.declared.Optional.{Optional}
+use Rattle.tokens.specs.Answer.{consumed, consuming, Optionally}
+use Rattle.tokens.proofs.Laws.{holding-consumed, optioned}
+use Rattle.nodes.specs.declared.ActiveList.{ActiveList}
+use Rattle.nodes.specs.declared.Listed.{Listed}
+use Rattle.nodes.specs.declared.Listed.the-variants.{List as Items, Full}
+use Rattle.nodes.specs.Answer.{ends, active, listed, appendTwo}
+use Rattle.nodes.proofs.Laws.{ends-active, active-ends, holding-listed, came-listed}
+use Rattle.lists.specs.declared.Owner.{Owner as Code}
+use Rattle.lists.specs.declared.Owner.the-variants.{Call, Structural, Elements}
+use Rattle.lists.specs.declared.Turn.{Turn}
+use Rattle.lists.specs.declared.Turn.the-variants.{More, Last, Refused as NoTurn}
+use Rattle.lists.specs.Answer.{ownerOf, Counted, turnOf, turned, separating, ending, fieldEnd, shorthandEnd}
+use Rattle.rules.specs.Codes.BaseToken as BaseToken
+use Rattle.rules.specs.Codes.ParseNode as ParseNode
+use Rattle.rules.specs.Reading.{Step, again, done}
+use Rattle.rules.specs.Columns.{Nodes, Ends, columns, append, pushListItem, pushEndOfList}
+use Rattle.rules.specs.Expressions.{Owner, separator, itemEnd, nameAlone, owned, listEnd}
+
+-- what was read, by the turn
+turn-same :
+    (a a' : Step Counted Counted) (c c' k k' : ℕ) → turnOf a c k ≡ turnOf a' c' k' → (a ≡ a') × (c ≡ c') × (k ≡ k')
+turn-same (again l) (again l') c c' k k' e =
+    let x : active (l .0) ≡ active (l' .0) = cc in
+    let y : l .1 ≡ l' .1 = cc in
+    let z : token c ≡ token c' = cc in
+    let w : l .0 ≡ l' .0 = sym (ends-active (l .0)) ∙ ap ends x ∙ ends-active (l' .0) in
+    (rw (w, y) refl, ap (λ (t : TokenId). t .0) z, (cc))
+turn-same (done l) (done l') c c' k k' e =
+    let x : active (l .0) ≡ active (l' .0) = cc in
+    let y : l .1 ≡ l' .1 = cc in
+    let z : token c ≡ token c' = cc in
+    let w : l .0 ≡ l' .0 = sym (ends-active (l .0)) ∙ ap ends x ∙ ends-active (l' .0) in
+    (rw (w, y) refl, ap (λ (t : TokenId). t .0) z, (cc))
+turn-same (again l) (done l') c c' k k' e = let z : _≡_ {A = ℕ} 0 1 = cc in absurd (omega arith)
+turn-same (done l) (again l') c c' k k' e = let z : _≡_ {A = ℕ} 0 1 = cc in absurd (omega arith)
+
+turn-read : (a : Step Counted Counted) (c k : ℕ) (r : Parsed) → turnOf a c k ≡ NoTurn r → ⊥
+turn-read (again l) c k r e = let z : _≡_ {A = ℕ} 0 1 = cc in omega arith
+turn-read (done l) c k r e = let z : _≡_ {A = ℕ} 0 1 = cc in omega arith
+
+pub holding-turned : Holding turned
+holding-turned = record {
+  plain = record {
+    read-same = turn-same;
+    refused-same = λ r r' e. cc;
+    apart = λ a c k n x y c' k' e. turn-read a c k _ e;
+  };
+  holds = turn-read;
+}
+
+-- after an item: a comma, or the closing token
+module _ (closing : ℕ) (l : ActiveList) (i : ℕ) {tk : List ℕ} {c k : ℕ} {o : Optional}
+    (g : Optionally tk BaseToken.Comma c o) where
+  pub comma-read :
+      o .found ≡ true → Quiet turned (separating closing (ends l, i)) tk c k (More l i (o .cursor) k)
+  unfolding separating separator
+  comma-read e = record {
+    run = λ tv ns ls.
+        let z : As turned (separating closing (ends l, i) (row tk tv)) c (nodes ns ls k)
+        (More (active (ends l)) i (o .cursor) k) ns ls =
+        answers (reads _ (optioned g tv) then picked _ _ true e) in
+        rw (active-ends l) at z;
+  }
+
+  module _ (e : o .found ≡ false) {q : Consumed} (d : Quiet consumed (consuming closing) tk (o .cursor .0) k q) where
+    pub list-closed :
+        {p : TokenId} {j : ℕ} → q ≡ Next p j → Quiet turned (separating closing (ends l, i)) tk c k (Last l i p j)
+    unfolding separating separator consuming
+    list-closed {p} {j} w = record {
+      run = λ tv ns ls.
+          let z : As turned (separating closing (ends l, i) (row tk tv)) c (nodes ns ls k)
+          (Last (active (ends l)) i p j) ns ls =
+          answers (reads _ (optioned g tv) then picked _ _ false e then
+          reads _ (came-read (holding-consumed .plain) (d .run tv ns ls) w)) in
+          rw (active-ends l) at z;
+    }
+
+    pub list-open : {r : Parsed} → q ≡ Wrong r → Quiet turned (separating closing (ends l, i)) tk c k (NoTurn r)
+    unfolding separating separator consuming
+    list-open w = record {
+      run = λ tv ns ls.
+          hands-on _ (reads _ (optioned g tv) then picked _ _ false e) (held holding-consumed (d .run tv ns ls) w);
+    }
+
+-- an item
+module _ (closing : ℕ) (l : ActiveList) (i content : ℕ) (tk : List ℕ) {c : ℕ} {s : Nodes} {o : Listed} {ks ls : List ℕ}
+    (g : As listed (pushListItem (ends l)) c s o ks ls) where
+  pub item-full : {r : Parsed} → o ≡ Full r → Untyped turned (ending closing (ends l, i) content) tk c s (NoTurn r) ks ls
+  unfolding ending itemEnd
+  item-full q = record { run = λ tv. hands-on _ stays (held holding-listed g q) }
+
+  pub item-read :
+      {m : ActiveList} {p : TokenId} {j : ℕ} → o ≡ Items m p j → {r : Turn} →
+      Quiet turned (separating closing (ends m, i + 1)) tk (p .0) j r →
+      Untyped turned (ending closing (ends l, i) content) tk c s r ks ls
+  unfolding ending itemEnd separating
+  item-read q d = record { run = λ tv. shows (reads _ (came-listed g q)) (d .run tv ks ls) }
+
+-- a field
+module _ (l : Counted) (name e : ℕ) (tk : List ℕ) {c : ℕ} {s : Nodes} {r₁ : Parsed} {ks₁ ls₁ : List ℕ}
+    (g : Gives (append ParseNode.IdentifierAndExpression name) c s r₁ ks₁ ls₁) where
+  pub field-refused :
+      {x : ℕ} {a b p : TokenId} {j : ℕ} → r₁ ≡ Refused x a b p j →
+      Untyped turned (fieldEnd l name e) tk c s (NoTurn r₁) ks₁ ls₁
+  unfolding fieldEnd
+  field-refused q = record { run = λ tv. hands-on _ stays (told g q) }
+
+  pub field-read :
+      {n : NodeId} {p : TokenId} {j : ℕ} → r₁ ≡ Node n p j → {r : Turn} {ks ls : List ℕ} →
+      Untyped turned (ending BaseToken.BraceRight l (n .0)) tk (p .0) (nodes ks₁ ls₁ j) r ks ls →
+      Untyped turned (fieldEnd l name e) tk c s r ks ls
+  unfolding fieldEnd ending
+  field-read q d = record { run = λ tv. shows (reads _ (came-read plain-parsed g q)) (d .run tv) }
+
+-- a field without colon
+module _ (l : Counted) (name : ℕ) (tk : List ℕ) {c : ℕ} {s : Nodes} {r₁ : Parsed} {ks₁ ls₁ : List ℕ}
+    (g : Gives (nameAlone columns name) c s r₁ ks₁ ls₁) where
+  pub shorthand-refused :
+      {x : ℕ} {a b p : TokenId} {j : ℕ} → r₁ ≡ Refused x a b p j →
+      Untyped turned (shorthandEnd l name) tk c s (NoTurn r₁) ks₁ ls₁
+  unfolding shorthandEnd
+  shorthand-refused q = record { run = λ tv. hands-on _ stays (told g q) }
+
+  pub shorthand-read :
+      {n : NodeId} {p : TokenId} {j : ℕ} → r₁ ≡ Node n p j → {r : Turn} {ks ls : List ℕ} →
+      Untyped turned (fieldEnd l name (n .0)) tk (p .0) (nodes ks₁ ls₁ j) r ks ls →
+      Untyped turned (shorthandEnd l name) tk c s r ks ls
+  unfolding shorthandEnd
+  shorthand-read q d = record { run = λ tv. shows (reads _ (came-read plain-parsed g q)) (d .run tv) }
+
+-- the nodes of what a list belongs to
+module _ {o : Code} (items list : ℕ) {c : ℕ} {s : Nodes} {r : Parsed} {ks ls : List ℕ} where
+  pub call-read :
+      {name : TokenId} {builtin : ℕ} → o ≡ Call name builtin →
+      Gives (appendTwo ParseNode.Identifier (name .0) ParseNode.FunctionCall builtin) c s r ks ls →
+      Gives (owned columns (ownerOf o) items list) c s r ks ls
+  unfolding owned appendTwo
+  call-read e g = rw e g
+
+  pub structural-read :
+      {name : TokenId} → o ≡ Structural name → Gives (append ParseNode.Structural (name .0)) c s r ks ls →
+      Gives (owned columns (ownerOf o) items list) c s r ks ls
+  unfolding owned
+  structural-read e g = rw e g
+
+  pub elements-read :
+      o ≡ Elements → Gives (append ParseNode.ArrayLiteral items) c s r ks ls →
+      Gives (owned columns (ownerOf o) items list) c s r ks ls
+  unfolding owned
+  elements-read e g = rw e g
+
+-- the end of a list
+module _ (o : Owner) (l : Option Ends) (i : ℕ) {c : ℕ} {s : Nodes} {r₁ : Parsed} {ks₁ ls₁ : List ℕ}
+    (g : Gives (pushEndOfList l) c s r₁ ks₁ ls₁) where
+  pub end-refused :
+      {x : ℕ} {a b p : TokenId} {j : ℕ} → r₁ ≡ Refused x a b p j →
+      Gives (listEnd columns o (l, i)) c s r₁ ks₁ ls₁
+  unfolding listEnd
+  end-refused q = hands-on _ stays (told g q)
+
+  module _ {n : NodeId} {p : TokenId} {j : ℕ} (q : r₁ ≡ Node n p j) {r₂ : Parsed} {ks₂ ls₂ : List ℕ}
+      (d : Gives (append ParseNode.List (n .0)) (p .0) (nodes ks₁ ls₁ j) r₂ ks₂ ls₂) where
+    pub link-refused :
+        {x : ℕ} {a b p' : TokenId} {i' : ℕ} → r₂ ≡ Refused x a b p' i' →
+        Gives (listEnd columns o (l, i)) c s r₂ ks₂ ls₂
+    unfolding listEnd
+    link-refused w = hands-on _ (reads _ (came-read plain-parsed g q)) (told d w)
+
+    pub list-read :
+        {m : NodeId} {p' : TokenId} {j' : ℕ} → r₂ ≡ Node m p' j' → {r : Parsed} {ks ls : List ℕ} →
+        Gives (owned columns o i (m .0)) (p' .0) (nodes ks₂ ls₂ j') r ks ls →
+        Gives (listEnd columns o (l, i)) c s r ks ls
+    unfolding listEnd
+    list-read w f = shows (reads _ (came-read plain-parsed g q) then reads _ (came-read plain-parsed d w)) f

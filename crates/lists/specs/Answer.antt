@@ -1,0 +1,51 @@
+-- The answers of the code as the rules give them.
+use Prim.Native.Nat.{ℕ}
+use mathlib.Core.Option.{Option}
+use Rattle.codes.specs.Answer.{Form, token}
+use Rattle.nodes.specs.Answer.{active}
+use Rattle.lists.specs.declared.Owner.{Owner as Code}
+use Rattle.lists.specs.declared.Owner.the-variants.{Call, Structural, Elements}
+use Rattle.lists.specs.declared.Turn.{Turn}
+use Rattle.lists.specs.declared.Turn.the-variants.{More, Last, Refused}
+use Rattle.rules.specs.Codes.BaseToken as BaseToken
+use Rattle.rules.specs.Codes.ParseNode as ParseNode
+use Rattle.rules.specs.Reading.{Rule, Row, Step, again, done, _>>=_}
+use Rattle.rules.specs.Columns.{Nodes, Ends, columns, append}
+use Rattle.rules.specs.Expressions.{Owner, call, structural, elements, separator, itemEnd, nameAlone}
+
+-- what a list belongs to
+abbrev pub ownerOf : Code → Owner
+ownerOf (Call name builtin) = call (name .0) builtin
+ownerOf (Structural name) = structural (name .0)
+ownerOf Elements = elements
+
+-- an open list's first and last item, and the number of its items
+abbrev pub Counted : Type 0
+Counted = Option Ends × ℕ
+
+-- a list to which an item may be added, or the whole list
+abbrev pub turnOf : Step Counted Counted → ℕ → ℕ → Turn
+turnOf (again l) cursor count = More (active (l .0)) (l .1) (token cursor) count
+turnOf (done l) cursor count = Last (active (l .0)) (l .1) (token cursor) count
+
+abbrev pub turned : Form (Step Counted Counted) Turn
+turned = record { read = turnOf; refused = Refused }
+
+-- the rules of any row
+unfoldable pub separating : ℕ → Counted → Row → Rule Nodes (Step Counted Counted)
+separating closing l row = separator columns row closing l
+
+unfoldable pub ending : ℕ → Counted → ℕ → Row → Rule Nodes (Step Counted Counted)
+ending closing l content row = itemEnd columns row closing l content
+
+-- after a field's expression e
+unfoldable pub fieldEnd : Counted → ℕ → ℕ → Row → Rule Nodes (Step Counted Counted)
+fieldEnd l name e row = do
+  content ← append ParseNode.IdentifierAndExpression name
+  itemEnd columns row BaseToken.BraceRight l content
+
+-- "A field without colon reads as a reference to its own name."
+unfoldable pub shorthandEnd : Counted → ℕ → Row → Rule Nodes (Step Counted Counted)
+shorthandEnd l name row = do
+  e ← nameAlone columns name
+  fieldEnd l name e row

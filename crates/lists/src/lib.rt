@@ -1,0 +1,284 @@
+// Lists with commas: arguments, fields and elements, after parse_arguments and parse_fields of the Rust's parser.rs.
+ghost use mathlib.Core.Path.{_≡_};
+ghost use Prim.Native.Nat.{_+_, _≤_};
+ghost use Rattle.rules.specs.Codes.Limit as Most;
+ghost use Rattle.rules.specs.Columns.{columns};
+ghost use Rattle.rules.specs.Expressions.{closingOf, owned, listEnd};
+ghost use Rattle.codes.specs.Answer.{Gives, Untyped, Quiet, nodes};
+ghost use Rattle.nodes.specs.Answer.{Slots, ends, past};
+ghost use Rattle.lists.specs.Answer.{ownerOf, turned, separating, ending, fieldEnd, shorthandEnd};
+use codes::BaseToken;
+use codes::NodeId;
+use codes::ParseNode;
+use codes::Parsed;
+use codes::TokenId;
+use nodes::ActiveList;
+use nodes::Listed;
+use nodes::push;
+use nodes::push_end_of_list;
+use nodes::push_list;
+use nodes::push_list_item;
+use nodes::push_two;
+use references::push_name;
+use tokens::Consumed;
+use tokens::consume;
+use tokens::consume_optional;
+
+// What a list belongs to: a call of a name or of a Builtin, a struct or word by its name, or an array.
+pub enum Owner {
+    Call { name: TokenId, builtin: u32 },
+    Structural { name: TokenId },
+    Elements,
+}
+
+// A turn of a list: the list with the number of its items, open or whole, or a refusal.
+pub enum Turn {
+    More {
+        list: ActiveList,
+        items: u32,
+        cursor: TokenId,
+        count: u32,
+    },
+    Last {
+        list: ActiveList,
+        items: u32,
+        cursor: TokenId,
+        count: u32,
+    },
+    Refused {
+        refusal: Parsed,
+    },
+}
+
+// The token that closes a list.
+pub fn closing_of(owner: Owner) -> u8
+    ensures { λ r. ⌜ r ≡ closingOf (ownerOf owner) ⌝ }
+{
+    match owner {
+        Owner::Call {
+            name: _,
+            builtin: _,
+        } => BaseToken::ParenRight,
+        Owner::Structural { name: _ } => BaseToken::BraceRight,
+        Owner::Elements => BaseToken::BracketRight,
+    }
+}
+
+// After an item: a comma, or the closing token.
+fn parse_separator(
+    kinds: &[u8],
+    cursor: TokenId,
+    count: u32,
+    list: ActiveList,
+    items: u32,
+    closing: u8,
+) -> Turn
+    requires { ⌜ cursor .0 ≤ Most.Tokens + 1 ⌝ }
+    ensures { λ r. ⌜ Quiet turned (separating closing (ends list, items)) (now (kinds .entry)) (cursor .0) count r ⌝ }
+{
+    let comma = consume_optional(kinds, cursor, BaseToken::Comma);
+    let after = comma.cursor;
+    if comma.found {
+        return Turn::More {
+            list,
+            items,
+            cursor: after,
+            count,
+        };
+    }
+    match consume(kinds, after, count, closing) {
+        Consumed::Next {
+            cursor: end,
+            count: used,
+        } => Turn::Last {
+            list,
+            items,
+            cursor: end,
+            count: used,
+        },
+        Consumed::Wrong { refusal } => Turn::Refused { refusal },
+    }
+}
+
+// What was appended last becomes the list's item; a comma or the closing token follows.
+pub fn finish_item(
+    kinds: &[u8],
+    node_kinds: &mut [u8],
+    node_loads: &mut [u32],
+    cursor: TokenId,
+    count: u32,
+    list: ActiveList,
+    items: u32,
+    closing: u8,
+    content: NodeId,
+) -> Turn
+    requires { ⌜ (cursor .0 ≤ Most.Tokens + 1) × Slots (now «node_kinds») (now «node_loads») count × (past list ≤ count) × (items ≤ count) ⌝ }
+    ensures { λ r. ⌜ Untyped turned (ending closing (ends list, items) (content .0)) (now (kinds .entry)) (cursor .0) (nodes (now («node_kinds» .entry)) (now («node_loads» .entry)) count) r (now («node_kinds» .exit)) (now («node_loads» .exit)) ⌝ }
+{
+    match push_list_item(node_kinds, node_loads, cursor, count, list) {
+        Listed::List {
+            list: grown,
+            cursor: after,
+            count: used,
+        } => parse_separator(kinds, after, used, grown, items + 1, closing),
+        Listed::Full { refusal } => Turn::Refused { refusal },
+    }
+}
+
+// After the expression of the field at `name`.
+pub fn finish_field(
+    kinds: &[u8],
+    node_kinds: &mut [u8],
+    node_loads: &mut [u32],
+    cursor: TokenId,
+    count: u32,
+    list: ActiveList,
+    items: u32,
+    name: TokenId,
+    expression: NodeId,
+) -> Turn
+    requires { ⌜ (cursor .0 ≤ Most.Tokens + 1) × Slots (now «node_kinds») (now «node_loads») count × (past list ≤ count) × (items ≤ count) ⌝ }
+    ensures { λ r. ⌜ Untyped turned (fieldEnd (ends list, items) (name .0) (expression .0)) (now (kinds .entry)) (cursor .0) (nodes (now («node_kinds» .entry)) (now («node_loads» .entry)) count) r (now («node_kinds» .exit)) (now («node_loads» .exit)) ⌝ }
+{
+    let kind = ParseNode::IdentifierAndExpression;
+    let field = push(node_kinds, node_loads, cursor, count, kind, name.0);
+    let Parsed::Node {
+        root: content,
+        cursor: after,
+        count: used,
+    } = field
+    else {
+        return Turn::Refused { refusal: field };
+    };
+    let closing = BaseToken::BraceRight;
+    finish_item(
+        kinds,
+        node_kinds,
+        node_loads,
+        after,
+        used,
+        list,
+        items,
+        closing,
+        content,
+    )
+}
+
+// The field at `name` without colon: a reference to its own name.
+pub fn finish_shorthand(
+    kinds: &[u8],
+    node_kinds: &mut [u8],
+    node_loads: &mut [u32],
+    cursor: TokenId,
+    count: u32,
+    list: ActiveList,
+    items: u32,
+    name: TokenId,
+) -> Turn
+    requires { ⌜ (cursor .0 ≤ Most.Tokens + 1) × Slots (now «node_kinds») (now «node_loads») count × (past list ≤ count) × (items ≤ count) ⌝ }
+    ensures { λ r. ⌜ Untyped turned (shorthandEnd (ends list, items) (name .0)) (now (kinds .entry)) (cursor .0) (nodes (now («node_kinds» .entry)) (now («node_loads» .entry)) count) r (now («node_kinds» .exit)) (now («node_loads» .exit)) ⌝ }
+{
+    let reference = push_name(node_kinds, node_loads, cursor, count, name);
+    let Parsed::Node {
+        root: expression,
+        cursor: after,
+        count: used,
+    } = reference
+    else {
+        return Turn::Refused { refusal: reference };
+    };
+    finish_field(
+        kinds,
+        node_kinds,
+        node_loads,
+        after,
+        used,
+        list,
+        items,
+        name,
+        expression,
+    )
+}
+
+// The nodes of what a list belongs to, after the link to it.
+fn push_owner(
+    node_kinds: &mut [u8],
+    node_loads: &mut [u32],
+    cursor: TokenId,
+    count: u32,
+    owner: Owner,
+    items: u32,
+    list: NodeId,
+) -> Parsed
+    requires { ⌜ Slots (now «node_kinds») (now «node_loads») count ⌝ }
+    ensures { λ r. ⌜ Gives (owned columns (ownerOf owner) items (list .0)) (cursor .0) (nodes (now («node_kinds» .entry)) (now («node_loads» .entry)) count) r (now («node_kinds» .exit)) (now («node_loads» .exit)) ⌝ }
+{
+    match owner {
+        Owner::Call { name, builtin } => {
+            push_two(
+                node_kinds,
+                node_loads,
+                cursor,
+                count,
+                ParseNode::Identifier,
+                name.0,
+                ParseNode::FunctionCall,
+                builtin,
+            )
+        }
+        Owner::Structural { name } => {
+            push(
+                node_kinds,
+                node_loads,
+                cursor,
+                count,
+                ParseNode::Structural,
+                name.0,
+            )
+        }
+        Owner::Elements => {
+            push(
+                node_kinds,
+                node_loads,
+                cursor,
+                count,
+                ParseNode::ArrayLiteral,
+                items,
+            )
+        }
+    }
+}
+
+// The end of a list, and the nodes of what it belongs to.
+pub fn finish_list(
+    node_kinds: &mut [u8],
+    node_loads: &mut [u32],
+    cursor: TokenId,
+    count: u32,
+    list: ActiveList,
+    items: u32,
+    owner: Owner,
+) -> Parsed
+    requires { ⌜ Slots (now «node_kinds») (now «node_loads») count × (past list ≤ count) ⌝ }
+    ensures { λ r. ⌜ Gives (listEnd columns (ownerOf owner) (ends list, items)) (cursor .0) (nodes (now («node_kinds» .entry)) (now («node_loads» .entry)) count) r (now («node_kinds» .exit)) (now («node_loads» .exit)) ⌝ }
+{
+    let ended = push_end_of_list(node_kinds, node_loads, cursor, count, list);
+    let Parsed::Node {
+        root: first,
+        cursor: end,
+        count: used,
+    } = ended
+    else {
+        return ended;
+    };
+    let linked = push_list(node_kinds, node_loads, end, used, first);
+    let Parsed::Node {
+        root: link,
+        cursor: after,
+        count: more,
+    } = linked
+    else {
+        return linked;
+    };
+    push_owner(node_kinds, node_loads, after, more, owner, items, link)
+}
