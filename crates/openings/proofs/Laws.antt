@@ -1,0 +1,262 @@
+-- How the start of a primary goes on, a law for each return.
+use mathlib.Core.Path.{_≡_, refl, sym, _∙_}
+use mathlib.Core.Bool.{Bool, true, false}
+use mathlib.Core.Option.{none}
+use mathlib.Core.List.{List, [], _∷_}
+use Prim.Native.Nat.{ℕ, _+_}
+use native.Mathlib.Omega.{arith}
+use lib.Dec.{eqb}
+use mathlib.Core.Logic.{_⊎_, inl, inr}
+use borrow.Author.Tests.{eq-eqb, ne-eqb, eqb-false}
+use Rattle.codes.specs.declared.Parsed.{Parsed}
+use Rattle.codes.specs.declared.TokenId.{TokenId}
+use Rattle.codes.specs.Answer.{Quiet, Sized, row, token}
+use Rattle.codes.proofs.Onto.{Onto, _then_, first, stays, reads, at-here, takes, shows, held, hands-on, came-read}
+use Rattle.codes.proofs.Onto.{Rest, sized-after}
+use Rattle.codes.proofs.Loops.{round-last}
+use Rattle.tokens.specs.declared.Consumed.{Consumed}
+use Rattle.tokens.specs.declared.Consumed.the-variants.{Next, Wrong}
+use Rattle.tokens.specs.Answer.{kindIn, consumed, consuming}
+use Rattle.tokens.proofs.Laws.{holding-consumed}
+use Rattle.tokens.proofs.Bounds.{past-token, past-consumed}
+use Rattle.references.specs.declared.Address.{Address}
+use Rattle.references.specs.declared.Address.the-variants.{Name as At, Refused as NoName}
+use Rattle.references.specs.Answer.{addressed, addressing}
+use Rattle.references.proofs.Laws.{holding-addressed}
+use Rattle.lists.specs.declared.Owner.the-variants.{Call, Structural, Elements}
+use Rattle.openings.specs.declared.Opening.{Opening}
+use Rattle.openings.specs.declared.Opening.the-variants.{List as Items, Reference, Name, Group, Literal, Refused}
+use Rattle.openings.specs.Answer.{Holds, Onward, Opens, Starts, listed, referred, alone, grouped}
+use Rattle.openings.specs.Answer.{naming, calling, pointing, primaryOr}
+use Rattle.rules.specs.Codes.BaseToken as BaseToken
+use Rattle.rules.specs.Reading.{Rule, pure, _>>=_, optional, choose}
+use Rattle.rules.specs.Columns.{Nodes, columns, pushEndOfList}
+use Rattle.rules.specs.Expressions.{named, builtin, pointer, reference, primary, stepped, steps, step, deref}
+use Rattle.rules.specs.Expressions.{nameAlone, elements}
+use Rattle.rules.proofs.Forward.{Nonzero}
+use Rattle.rules.proofs.Demand.{below}
+use Rattle.rules.proofs.Moves.{address-moves}
+
+-- an optional token, by the kind that stands there
+module _ (tk : List ℕ) (c t : ℕ) (peeked : t ≡ kindIn tk c) (tv : List ℕ) {s : Nodes} where
+  there : (key : ℕ) → t ≡ key → Onto (optional (row tk tv) key) c s (pure true) (c + 1) s
+  unfolding optional
+  there key e = record { same = rw (eq-eqb _ _ (sym peeked ∙ e)) refl }
+
+  not-there : (key : ℕ) → (t ≡ key → ⊥) → Onto (optional (row tk tv) key) c s (pure false) c s
+  unfolding optional
+  not-there key h = record { same = rw (ne-eqb _ _ (λ e. h (peeked ∙ e))) refl }
+
+-- two kinds are not the same
+apart : (t key other : ℕ) → eqb key other ≡ false → t ≡ key → t ≡ other → ⊥
+apart t key other d e f = eqb-false key other d (sym e ∙ f)
+
+-- what every reader takes for granted holds after a name and the ampersands before it
+past-address :
+    (tk tv : List ℕ) (start : ℕ) (ns ls : List ℕ) {c k : ℕ} {a : Address} →
+    Quiet addressed (addressing start) tk c k a →
+    {depth : ℕ} {name p : TokenId} {j : ℕ} → a ≡ At depth name p j → Sized tk tv ns ls c k → Sized tk tv ns ls (p .0) j
+unfolding addressing
+past-address tk tv start ns ls {c = c} g e z =
+    sized-after z (holding-addressed .plain) (address-moves (below (row tk tv)) (omega arith) start c)
+    (g .run tv ns ls) e .0
+
+-- after a name, by the next token
+module _ (tk : List ℕ) (name : TokenId) (c t k : ℕ) (peeked : t ≡ kindIn tk c) where
+  pub call-opens :
+      t ≡ BaseToken.ParenLeft → Opens (naming (name .0)) tk (name .0) c k (Items (Call name 0) (token (c + 1)) k)
+  unfolding Opens naming listed named
+  call-opens e = record {
+    same = λ tv expr ks ls. reads _ (there tk c t peeked tv _ e) .same;
+    sized = λ tv ks ls z. past-token t _ peeked e refl z;
+  }
+
+  pub fields-open :
+      t ≡ BaseToken.BraceLeft → Opens (naming (name .0)) tk (name .0) c k (Items (Structural name) (token (c + 1)) k)
+  unfolding Opens naming listed named
+  fields-open e = record {
+    same = λ tv expr ks ls.
+        (reads _ (not-there tk c t peeked tv _ (apart t _ _ refl e)) then reads _ (there tk c t peeked tv _ e)) .same;
+    sized = λ tv ks ls z. past-token t _ peeked e refl z;
+  }
+
+  -- neither arguments nor fields follow
+  steps-follow :
+      (t ≡ BaseToken.ParenLeft → ⊥) → (t ≡ BaseToken.BraceLeft → ⊥) → (tv : List ℕ) (expr : Rule Nodes ℕ) {s : Nodes} →
+      Onto (named columns (row tk tv) expr (name .0)) c s (stepped columns (row tk tv) expr (name .0) 0 (name .0)) c s
+  unfolding named
+  steps-follow h h' tv expr = reads _ (not-there tk c t peeked tv _ h) then reads _ (not-there tk c t peeked tv _ h')
+
+  -- no step follows
+  no-steps :
+      (tv : List ℕ) (expr : Rule Nodes ℕ) {s : Nodes} → (t ≡ BaseToken.BracketLeft → ⊥) → (t ≡ BaseToken.Dot → ⊥) →
+      Onto (stepped columns (row tk tv) expr (name .0) 0 (name .0)) c s
+      (pushEndOfList none >>= λ l. deref columns (name .0) 0 (name .0) l) c s
+  unfolding stepped steps step
+  no-steps tv expr h h' =
+      first _ (at-here _ then reads _ (round-last _ _ _
+      (reads _ (not-there tk c t peeked tv _ h) then reads _ (not-there tk c t peeked tv _ h'))))
+
+  pub steps-open :
+      (t ≡ BaseToken.BracketLeft) ⊎ (t ≡ BaseToken.Dot) →
+      Opens (naming (name .0)) tk (name .0) c k (Reference 0 name false (token c) k)
+  unfolding Opens naming referred
+  steps-open (inl e) = record {
+    same = λ tv expr ks ls. steps-follow (apart t _ _ refl e) (apart t _ _ refl e) tv expr .same;
+    sized = λ tv ks ls z. z;
+  }
+  steps-open (inr e) = record {
+    same = λ tv expr ks ls. steps-follow (apart t _ _ refl e) (apart t _ _ refl e) tv expr .same;
+    sized = λ tv ks ls z. z;
+  }
+
+  -- a name with no step
+  pub name-opens :
+      Rest t (Unit {0}) (BaseToken.ParenLeft ∷ BaseToken.BraceLeft ∷ []) ×
+      ((t ≡ BaseToken.BracketLeft) ⊎ (t ≡ BaseToken.Dot) → ⊥) →
+      Opens (naming (name .0)) tk (name .0) c k (Name (token c) k)
+  unfolding Opens naming alone nameAlone
+  name-opens h = record {
+    same = λ tv expr ks ls.
+        (steps-follow (h .0 .0 .1) (h .0 .1) tv expr then no-steps tv expr (λ e. h .1 (inl e))
+        (λ e. h .1 (inr e))) .same;
+    sized = λ tv ks ls z. z;
+  }
+
+-- after a Builtin
+module _ {tk : List ℕ} (name : TokenId) {c k : ℕ} {o : Consumed}
+    (g : Quiet consumed (consuming BaseToken.ParenLeft) tk c k o) where
+  pub builtin-opens :
+      {p : TokenId} {j : ℕ} → o ≡ Next p j → Opens (calling (name .0)) tk (name .0) c k (Items (Call name 1) p j)
+  unfolding Opens calling listed builtin consuming
+  builtin-opens e = record {
+    same = λ tv expr ks ls. reads _ (came-read (holding-consumed .plain) (g .run tv ks ls) e) .same;
+    sized = λ tv ks ls z. past-consumed _ g e refl z;
+  }
+
+  pub builtin-refused : (r : Parsed) → o ≡ Wrong r → Opens (calling (name .0)) tk (name .0) c k (Refused r)
+  unfolding Opens calling builtin consuming
+  builtin-refused r e tv expr ks ls = hands-on _ stays (held holding-consumed (g .run tv ks ls) e)
+
+-- after an ampersand or a pipe
+module _ {tk : List ℕ} (start : ℕ) {c k : ℕ} {a : Address} (g : Quiet addressed (addressing start) tk c k a) where
+  pub pointer-opens :
+      {depth : ℕ} {name p : TokenId} {j : ℕ} → a ≡ At depth name p j →
+      Opens (pointing start) tk start c k (Reference depth name true p j)
+  unfolding Opens pointing referred pointer addressing
+  pointer-opens e = record {
+    same = λ tv expr ks ls. reads _ (came-read (holding-addressed .plain) (g .run tv ks ls) e) .same;
+    sized = λ tv ks ls z. past-address tk tv start ks ls g e z;
+  }
+
+  pub pointer-refused : (r : Parsed) → a ≡ NoName r → Opens (pointing start) tk start c k (Refused r)
+  unfolding Opens pointing pointer addressing
+  pointer-refused r e tv expr ks ls = hands-on _ stays (held holding-addressed (g .run tv ks ls) e)
+
+module _ {tk : List ℕ} {c k : ℕ} {a : Address} (g : Quiet addressed (addressing c) tk c k a) where
+  pub pipe-opens :
+      {depth : ℕ} {name p : TokenId} {j : ℕ} → a ≡ At depth name p j →
+      Opens (primaryOr true) tk c c k (Reference 0 name false p j)
+  unfolding Opens primaryOr referred reference addressing
+  pipe-opens e = record {
+    same = λ tv expr ks ls. (at-here _ then reads _ (came-read (holding-addressed .plain) (g .run tv ks ls) e)) .same;
+    sized = λ tv ks ls z. past-address tk tv c ks ls g e z;
+  }
+
+  pub pipe-refused : (r : Parsed) → a ≡ NoName r → Opens (primaryOr true) tk c c k (Refused r)
+  unfolding Opens primaryOr reference addressing
+  pipe-refused r e tv expr ks ls = hands-on _ (at-here _) (held holding-addressed (g .run tv ks ls) e)
+
+-- the primaries that hold a name or an expression, by their first token
+pub data Begins (start : ℕ) : ℕ → Holds → Type 0 where
+  with-name : Begins start BaseToken.Identifier (naming start)
+  with-builtin : Begins start BaseToken.Builtin (calling start)
+  with-ampersand : Begins start BaseToken.Ampersand (pointing start)
+  with-bracket : Begins start BaseToken.BracketLeft (listed elements)
+  with-parenthesis : Begins start BaseToken.ParenLeft grouped
+
+module _ (tk : List ℕ) (c t k : ℕ) (peeked : t ≡ kindIn tk c) where
+  begins :
+      {key : ℕ} {m : Holds} → Begins c key m → t ≡ key → (tv : List ℕ) (expr : Rule Nodes ℕ) {s : Nodes} →
+      Onto (primary columns (row tk tv) expr) c s (m (row tk tv) expr) (c + 1) s
+  unfolding primary choose naming calling pointing listed grouped
+  begins with-name e tv expr = at-here _ then takes _ _ (sym e ∙ peeked)
+  begins with-builtin e tv expr = at-here _ then takes _ _ (sym e ∙ peeked)
+  begins with-ampersand e tv expr = at-here _ then takes _ _ (sym e ∙ peeked)
+  begins with-bracket e tv expr = at-here _ then takes _ _ (sym e ∙ peeked)
+  begins with-parenthesis e tv expr = at-here _ then takes _ _ (sym e ∙ peeked)
+
+  nonzero : {key : ℕ} {m : Holds} → Begins c key m → Nonzero key
+  nonzero with-name = refl
+  nonzero with-builtin = refl
+  nonzero with-ampersand = refl
+  nonzero with-bracket = refl
+  nonzero with-parenthesis = refl
+
+  -- a primary goes on as what it begins
+  onward :
+      {key : ℕ} {m : Holds} → Begins c key m → t ≡ key → {m' : Holds} {p j : ℕ} → Onward m tk (c + 1) k m' p j →
+      Onward (primaryOr false) tk c k m' p j
+  unfolding primaryOr
+  onward b e h = record {
+    same = λ tv expr ks ls. begins b e tv expr .same ∙ h .same tv expr ks ls;
+    sized = λ tv ks ls z. h .sized tv ks ls (past-token t _ peeked e (nonzero b) z);
+  }
+
+  opened :
+      {key : ℕ} {m : Holds} → Begins c key m → t ≡ key → (r : Opening) → Opens m tk c (c + 1) k r →
+      Starts false tk c k r
+  unfolding Starts Opens primaryOr
+  opened b e (Items owner p j) h = onward b e h
+  opened b e (Reference depth name isPointer p j) h = onward b e h
+  opened b e (Name p j) h = onward b e h
+  opened b e (Group p j) h = onward b e h
+  opened b e (Literal u) h = absurd h
+  opened b e (Refused r) h = λ tv expr ks ls. shows (begins b e tv expr) (h tv expr ks ls)
+
+  module _ {piped : Bool} (not-piped : piped ≡ false) where
+    pub primary-opens :
+        {key : ℕ} {m : Holds} → Begins c key m → t ≡ key → (r : Opening) → Opens m tk c (c + 1) k r →
+        Starts piped tk c k r
+    primary-opens b e r h = rw not-piped (opened b e r h)
+
+    pub elements-open : t ≡ BaseToken.BracketLeft → Starts piped tk c k (Items Elements (token (c + 1)) k)
+    unfolding Opens
+    elements-open e =
+        primary-opens with-bracket e _ (record { same = λ tv expr ks ls. refl; sized = λ tv ks ls z. z })
+
+    pub group-opens : t ≡ BaseToken.ParenLeft → Starts piped tk c k (Group (token (c + 1)) k)
+    unfolding Opens
+    group-opens e =
+        primary-opens with-parenthesis e _ (record { same = λ tv expr ks ls. refl; sized = λ tv ks ls z. z })
+
+    pub literal-opens :
+        Rest t (Unit {0}) (BaseToken.Identifier ∷ BaseToken.Builtin ∷ BaseToken.Ampersand ∷ BaseToken.BracketLeft ∷
+        BaseToken.ParenLeft ∷ []) →
+        Starts piped tk c k (Literal t)
+    unfolding Starts
+    literal-opens h = (
+      record {
+        token = peeked;
+        no-ampersand = h .0 .0 .1;
+        no-identifier = h .0 .0 .0 .0 .1;
+        no-builtin = h .0 .0 .0 .1;
+        no-bracket = h .0 .1;
+        no-parenthesis = h .1;
+      },
+      not-piped,
+    )
+
+piped-opens : (tk : List ℕ) (c k : ℕ) (r : Opening) → Opens (primaryOr true) tk c c k r → Starts true tk c k r
+unfolding Starts Opens
+piped-opens tk c k (Items owner p j) h = h
+piped-opens tk c k (Reference depth name isPointer p j) h = h
+piped-opens tk c k (Name p j) h = h
+piped-opens tk c k (Group p j) h = h
+piped-opens tk c k (Literal u) h = absurd h
+piped-opens tk c k (Refused r) h = h
+
+pub reference-opens :
+    (tk : List ℕ) (c k : ℕ) {piped : Bool} → piped ≡ true → (r : Opening) → Opens (primaryOr true) tk c c k r →
+    Starts piped tk c k r
+reference-opens tk c k e r h = rw e (piped-opens tk c k r h)
