@@ -74,8 +74,8 @@ module _ (closing : ℕ) (l : ActiveList) (i : ℕ) {tk : List ℕ} {c k : ℕ} 
   comma-read e = record {
     run = λ tv ns ls.
         let z : As turned (separating closing (ends l, i) (row tk tv)) c (nodes ns ls k)
-              (More (active (ends l)) i (o .cursor) k) ns ls =
-          answers (reads _ (optioned g tv) then picked _ _ true e) in
+        (More (active (ends l)) i (o .cursor) k) ns ls =
+        answers (reads _ (optioned g tv) then picked _ _ true e) in
         rw (active-ends l) at z;
   }
 
@@ -86,9 +86,9 @@ module _ (closing : ℕ) (l : ActiveList) (i : ℕ) {tk : List ℕ} {c k : ℕ} 
     list-closed {p} {j} w = record {
       run = λ tv ns ls.
           let z : As turned (separating closing (ends l, i) (row tk tv)) c (nodes ns ls k)
-                (Last (active (ends l)) i p j) ns ls =
-            answers (reads _ (optioned g tv) then picked _ _ false e then
-            reads _ (came-read (holding-consumed .plain) (d .run tv ns ls) w)) in
+          (Last (active (ends l)) i p j) ns ls =
+          answers (reads _ (optioned g tv) then picked _ _ false e then
+          reads _ (came-read (holding-consumed .plain) (d .run tv ns ls) w)) in
           rw (active-ends l) at z;
     }
 
@@ -102,7 +102,8 @@ module _ (closing : ℕ) (l : ActiveList) (i : ℕ) {tk : List ℕ} {c k : ℕ} 
 -- an item
 module _ (closing : ℕ) (l : ActiveList) (i content : ℕ) (tk : List ℕ) {c : ℕ} {s : Nodes} {o : Listed} {ks ls : List ℕ}
     (g : As listed (pushListItem (ends l)) c s o ks ls) where
-  pub item-full : {r : Parsed} → o ≡ Full r → Untyped turned (ending closing (ends l, i) content) tk c s (NoTurn r) ks ls
+  pub item-full :
+      {r : Parsed} → o ≡ Full r → Untyped turned (ending closing (ends l, i) content) tk c s (NoTurn r) ks ls
   unfolding ending itemEnd
   item-full q = record { run = λ tv. hands-on _ stays (held holding-listed g q) }
 

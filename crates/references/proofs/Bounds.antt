@@ -49,8 +49,8 @@ pub ampersands-at :
 unfolding counting
 ampersands-at start {tk} {c} {k} g q b h =
     let (x, _, _) =
-      moved (came-read (holding-depths .plain) (g .run [] (replicate k 0) []) q)
-      (ampersands-stays (below (row tk [])) (omega arith) start c) (omega (arith, length-replicate {A = ℕ} k 0)) h in
+    moved (came-read (holding-depths .plain) (g .run [] (replicate k 0) []) q)
+    (ampersands-stays (below (row tk [])) (omega arith) start c) (omega (arith, length-replicate {A = ℕ} k 0)) h in
     omega arith
 
 -- after a name with no step

@@ -184,7 +184,7 @@ module _ (l : ActiveList) (content : ℕ) {c : ℕ} {s : Nodes} {o : Listed} {ks
   step-more {m} {p} {j} q = record {
     run = λ row.
         let z : As stepped (stepping (ends l) content row) c s (More (active (ends m)) p j) ks ls =
-          answers (reads _ (came-listed g q)) in
+        answers (reads _ (came-listed g q)) in
         rw (active-ends m) at z;
   }
 
@@ -278,12 +278,13 @@ module _ {tk : List ℕ} {start c k depth at : ℕ} (h : Counting tk start c k d
 
   pub counts-on :
       o .found ≡ true → depth + 1 ≤ Limit.AddressDepth →
-      (o .cursor .0 ≤ length tk) × Counting tk start c k (depth + 1) (o .cursor .0)
+      (o .cursor .0 ≤ length tk) × (depth + 1 ≤ Limit.AddressDepth) × Counting tk start c k (depth + 1) (o .cursor .0)
   unfolding ampersand
   counts-on e b =
       let (p, q) = found-next g e in
       let x : at < length tk = in-row tk at (kindIn tk at) BaseToken.Ampersand refl q refl in (
         omega arith,
+        b,
         record {
           going = λ tv ns ls.
               goes-round _ (h .going tv ns ls)
