@@ -102,7 +102,8 @@ module _ (closing : ℕ) (l : ActiveList) (i : ℕ) {tk : List ℕ} {c k : ℕ} 
 -- an item
 module _ (closing : ℕ) (l : ActiveList) (i content : ℕ) (tk : List ℕ) {c : ℕ} {s : Nodes} {o : Listed} {ks ls : List ℕ}
     (g : As listed (pushListItem (ends l)) c s o ks ls) where
-  pub item-full : {r : Parsed} → o ≡ Full r → Untyped turned (ending closing (ends l, i) content) tk c s (NoTurn r) ks ls
+  pub item-full :
+      {r : Parsed} → o ≡ Full r → Untyped turned (ending closing (ends l, i) content) tk c s (NoTurn r) ks ls
   unfolding ending itemEnd
   item-full q = record { run = λ tv. hands-on _ stays (held holding-listed g q) }
 

@@ -277,12 +277,13 @@ module _ {tk : List ℕ} {start c k depth at : ℕ} (h : Counting tk start c k d
 
   pub counts-on :
       o .found ≡ true → depth + 1 ≤ Limit.AddressDepth →
-      (o .cursor .0 ≤ length tk) × Counting tk start c k (depth + 1) (o .cursor .0)
+      (o .cursor .0 ≤ length tk) × (depth + 1 ≤ Limit.AddressDepth) × Counting tk start c k (depth + 1) (o .cursor .0)
   unfolding ampersand
   counts-on e b =
       let (p, q) = found-next g e in
       let x : at < length tk = in-row tk at (kindIn tk at) BaseToken.Ampersand refl q refl in (
         omega arith,
+        b,
         record {
           going = λ tv ns ls.
               goes-round _ (h .going tv ns ls)

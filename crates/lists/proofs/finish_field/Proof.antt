@@ -9,7 +9,14 @@ returns : tie.Need-returns
 returns c = search (needs, field-refused)
 
 finish-item-requires : tie.Need-finish-item-requires
-finish-item-requires c κs = let (a, b, e) = after-push _ _ (c .before .before .before .before .before .before .before .before .before .push .ensures) (c .before .before .before .field .given .1) (c .before .before .before .before .before .before .before .before .before .before .before .before .before .before .before .pre .1) in (omega arith, a, omega arith, omega arith)
+finish-item-requires c κs = let (a, b, e) = after-push _ _ (c .before .before .before .before .before .before .before
+    .before .before .push .ensures) (c .before .before .before .field .given .1) (c .before .before .before .before
+    .before .before .before .before .before .before .before .before .before .before .before .pre .1) in (
+      omega arith,
+      a,
+      omega arith,
+      omega arith,
+    )
 
 returns-2 : tie.Need-returns-2
 returns-2 c = search (needs, field-read)

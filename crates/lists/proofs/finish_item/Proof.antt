@@ -6,7 +6,9 @@ use Rattle.lists.proofs.finish_item.Statement.{statement}
 use Rattle.lists.proofs.finish_item.Tie as tie
 
 parse-separator-requires : tie.Need-parse-separator-requires
-parse-separator-requires c κs = let (_, _, e) = after-item _ (c .before .before .before .before .before .before .before .push-list-item .ensures) (c .before .grown .given .1) (c .before .before .before .before .before .before .before .before .before .before .before .before .before .pre .1) in omega arith
+parse-separator-requires c κs = let (_, _, e) = after-item _ (c .before .before .before .before .before .before .before
+    .push-list-item .ensures) (c .before .grown .given .1) (c .before .before .before .before .before .before .before
+    .before .before .before .before .before .before .pre .1) in omega arith
 
 returns : tie.Need-returns
 returns c = search (needs, item-read)

@@ -14,10 +14,11 @@ returns-2 : tie.Need-returns-2
 returns-2 c = search (needs, link-refused)
 
 push-owner-requires : tie.Need-push-owner-requires
-push-owner-requires c κs = push-slots _ _ (c .before .before .before .before .before .before .before .before .before .push-list .ensures) (c .before .before .before .linked .given .1) (end-slots _ (c .before .before .before .before .before .before .before .before .before .before .before .before .before .before .before .before .before .before .before .push-end-of-list .ensures) (c .before .before .before .before .before .before .before .before .before .before .before .before .before .ended .given .1) (c .before .before .before .before .before .before .before .before .before .before .before .before .before .before .before .before .before .before .before .before .before .before .before .before .pre .0))
+push-owner-requires c κs = push-slots _ _ (c .before .before .before .before .before .before .before .before .before
+    .push-list .ensures) (c .before .before .before .linked .given .1) (search (needs, end-slots))
 
 returns-3 : tie.Need-returns-3
-returns-3 c = list-read _ _ _ (c .before .before .before .before .before .before .before .before .before .before .before .before .before .before .before .before .before .before .before .before .before .before .before .before .push-end-of-list .ensures) (c .before .before .before .before .before .before .before .before .before .before .before .before .before .before .before .before .before .before .ended .given .1) (c .before .before .before .before .before .before .before .before .before .before .before .before .before .before .push-list .ensures) (c .before .before .before .before .before .before .before .before .linked .given .1) (c .before .before .before .before .push-owner .ensures)
+returns-3 c = search (needs, list-read)
 
 pub finish-list-spec : {M : Type 1} → statement M
 finish-list-spec =

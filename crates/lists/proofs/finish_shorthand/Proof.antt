@@ -9,7 +9,15 @@ returns : tie.Need-returns
 returns c = search (needs, shorthand-refused)
 
 finish-field-requires : tie.Need-finish-field-requires
-finish-field-requires c κs = let (a, b, e) = after-name _ (c .before .before .before .before .before .before .before .before .before .push-name .ensures) (c .before .before .before .reference .given .1) (c .before .before .before .before .before .before .before .before .before .before .before .before .before .before .before .pre .1) in (omega arith, a, omega arith, omega arith)
+finish-field-requires c κs = let (a, b, e) = after-name _ (c .before .before .before .before .before .before .before
+    .before .before .push-name .ensures) (c .before .before .before .reference .given .1) (c .before .before .before
+    .before .before .before .before .before .before .before .before .before .before .before .before .pre .1) in (
+      omega
+          arith,
+      a,
+      omega arith,
+      omega arith,
+    )
 
 returns-2 : tie.Need-returns-2
 returns-2 c = search (needs, shorthand-read)

@@ -11,7 +11,9 @@ returns c = search (needs, element-refused)
 
 push-step-requires : tie.Need-push-step-requires
 push-step-requires c κs =
-    let (a, b, _) = after-closed _ _ _ (c .before .before .before .before .before .before .before .before .before .push-closed .ensures) (c .before .before .before .step .given .1) refl (c .before .before .before .before .before .before .before .before .before .before .before .before .before .before .before .pre .1) in (a, omega arith)
+    let (a, b, _) = after-closed _ _ _ (c .before .before .before .before .before .before .before .before .before
+    .push-closed .ensures) (c .before .before .before .step .given .1) refl (c .before .before .before .before .before
+    .before .before .before .before .before .before .before .before .before .before .pre .1) in (a, omega arith)
 
 returns-2 : tie.Need-returns-2
 returns-2 c = search (needs, element-read)

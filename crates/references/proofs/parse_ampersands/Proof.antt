@@ -22,7 +22,7 @@ consume-optional-requires : tie.Need-consume-optional-requires Inv-loop μ-loop
 consume-optional-requires c κs = omega arith
 
 returns : tie.Need-returns Inv-loop μ-loop
-returns c = counted (c .before .before .before .before .loop .inv .2) (c .before .before .before .consume-optional .ensures) (not-true (c .before .before .before .consume-optional .result .found) (c .if1 .taken))
+returns c = search (needs, counted, not-true)
 
 add-depth : tie.Need-add-depth Inv-loop μ-loop
 add-depth c = omega arith
@@ -31,16 +31,14 @@ exceeded-requires : tie.Need-exceeded-requires Inv-loop μ-loop
 exceeded-requires c κs = search needs
 
 returns-2 : tie.Need-returns-2 Inv-loop μ-loop
-returns-2 c =
-    counted-over (c .before .before .before .before .before .before .loop .inv .2) (c .before .before .before .before .before .consume-optional .ensures) (not-false (c .before .before .before .before .before .consume-optional .result .found) (c .before .before .if1 .left)) (c .before .if2 .taken) (c .exceeded .ensures)
+returns-2 c = search (needs, counted-over, not-false)
 
 loop-less : tie.Need-loop-less Inv-loop μ-loop
 loop-less c = omega arith
 
 loop-again : tie.Need-loop-again Inv-loop μ-loop
-loop-again c =
-    let (a, b) = counts-on (c .before .before .before .before .before .loop .inv .2) (c .before .before .before .before .consume-optional .ensures) (not-false (c .before .before .before .before .consume-optional .result .found) (c .before .if1 .left)) (c .if2 .left) in
-    (a, c .if2 .left, b)
+loop-again c = counts-on (c .before .before .before .before .before .loop .inv .2) (c .before .before .before .before
+    .consume-optional .ensures) (not-false _ (c .before .if1 .left)) (c .if2 .left)
 
 pub parse-ampersands-spec : {M : Type 1} → statement M
 parse-ampersands-spec =

@@ -14,8 +14,13 @@ returns c = search (needs, member-refused)
 
 push-step-requires : tie.Need-push-step-requires
 push-step-requires c κs =
-    let e = same-count _ (c .before .before .before .before .before .before .before .before .before .before .before .before .before .before .before .consume .ensures) (c .before .before .before .before .before .before .before .before .before .before .before .before .before .named .given .1) in
-    let (a, b, _) = after-push _ _ (c .before .before .before .before .before .before .before .before .before .push .ensures) (c .before .before .before .step .given .1) (same-slots e (c .before .before .before .before .before .before .before .before .before .before .before .before .before .before .before .before .before .before .before .pre .1)) in
+    let e = same-count _ (c .before .before .before .before .before .before .before .before .before .before .before
+    .before .before .before .before .consume .ensures) (c .before .before .before .before .before .before .before
+    .before .before .before .before .before .before .named .given .1) in
+    let (a, b, _) = after-push _ _ (c .before .before .before .before .before .before .before .before .before .push
+    .ensures) (c .before .before .before .step .given .1) (same-slots e (c .before .before .before .before .before
+    .before .before .before .before .before .before .before .before .before .before .before .before .before .before .pre
+    .1)) in
     (a, omega arith)
 
 returns-2 : tie.Need-returns-2

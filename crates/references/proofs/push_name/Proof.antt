@@ -6,7 +6,7 @@ use Rattle.references.proofs.push_name.Statement.{statement}
 use Rattle.references.proofs.push_name.Tie as tie
 
 push-deref-requires : tie.Need-push-deref-requires
-push-deref-requires c κs = (c .before .before .before .before .before .pre, omega (arith, past-none (c .before .before .start-list .result) (c .before .before .start-list .ensures)))
+push-deref-requires c κs = search (needs, past-none)
 
 returns : tie.Need-returns
 returns c = search (needs, name-read)
