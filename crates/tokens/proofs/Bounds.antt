@@ -57,15 +57,19 @@ module _ {tk : List ℕ} {c k : ℕ} (key : ℕ) {o : Consumed} (g : Quiet consu
   pub same-count : j ≡ k
   same-count = passed .1
 
--- a token that may stand here is passed
+-- a token that may stand here stands in the row
+pub optional-next :
+    {tk : List ℕ} {key c : ℕ} {o : Optional} → Optionally tk key c o → Nonzero key → o .found ≡ true →
+    (o .cursor .0 ≡ c + 1) × (c < length tk)
+optional-next {tk} {key} {c} g n e =
+    let (p, q) = found-next g e in (p, in-row tk c (kindIn tk c) key refl q n)
+
+-- it is passed
 optional-at : {tk : List ℕ} {key c : ℕ} {o : Optional} → Optionally tk key c o → Nonzero key → c ≤ length tk → o .cursor .0 ≤ length tk
 optional-at {tk} {key} {c} {o} g n b = go (o .found) refl
   where
     go : (f : Bool) → o .found ≡ f → o .cursor .0 ≤ length tk
-    go true e =
-        let (p, q) = found-next g e in
-        let h : c < length tk = in-row tk c (kindIn tk c) key refl q n in
-        omega arith
+    go true e = let (p, h) = optional-next g n e in omega arith
     go false e = let p = not-found g e in omega arith
 
 pub past-optional :

@@ -1,0 +1,157 @@
+-- How the answers of the readers of literals follow from those of the readers that they call, a law for each return.
+use mathlib.Core.Path.{_≡_, refl, sym, _∙_}
+use mathlib.Core.Bool.{Bool, true, false, not}
+use mathlib.Core.List.{List, [], _∷_}
+use Prim.Native.Nat.{ℕ, _+_, _≤_, _<_}
+use native.Mathlib.Omega.{arith}
+use lib.ListN.{length}
+use Rattle.codes.specs.declared.Parsed.{Parsed}
+use Rattle.codes.specs.declared.Parsed.the-variants.{Node, Refused}
+use Rattle.codes.specs.declared.NodeId.{NodeId}
+use Rattle.codes.specs.declared.TokenId.{TokenId}
+use Rattle.codes.specs.Answer.{Gives, Untyped, parsed, nodes, token, row, refusal}
+use Rattle.codes.proofs.Onto.{Onto, _then_, stays, reads, at-here, takes, declines, shows, told, hands-on, came-read}
+use Rattle.codes.proofs.Onto.{plain-parsed, Rest, beside, picked}
+use Rattle.codes.proofs.Loops.{Going, sets-out, goes-round, round-again, round-last}
+use Rattle.tokens.specs.declared.Optional.{Optional}
+use Rattle.tokens.specs.Answer.{kindIn, Optionally}
+use Rattle.tokens.proofs.Laws.{optioned, not-found, negated}
+use Rattle.tokens.proofs.Bounds.{optional-next}
+use Rattle.literals.specs.Answer.{Ending, Unkinded, Literal, joining, suffixed}
+use Rattle.rules.specs.Codes.BaseToken as BaseToken
+use Rattle.rules.specs.Codes.ParseNode as ParseNode
+use Rattle.rules.specs.Codes.Refusal as Refusal
+use Rattle.rules.specs.Reading.{Rule, Row, kindOf, _>>=_, pure, refuse, choose, repeat, loop}
+use Rattle.rules.specs.Columns.{Nodes, append, columns}
+use Rattle.rules.specs.Expressions.{string, strings, typedInteger, primary}
+
+-- Between two strings more, whatever the value types and the nodes are.
+pub record Strung (tk : List ℕ) (c₀ c : ℕ) : Type 0 where
+  pub run :
+      (tv : List ℕ) (s : Nodes) →
+      Going (loop (row tk tv) (string columns (row tk tv)) tt) c₀ s
+      (repeat (string columns (row tk tv)) (refuse Refusal.OutOfRounds 0 0)) (length tk) tt c s
+
+pub strung-first : (tk : List ℕ) (c : ℕ) → Strung tk c c
+unfolding loop
+strung-first tk c = record { run = λ tv s. sets-out _ stays }
+
+module _ (tk : List ℕ) (c₀ c : ℕ) {o : Optional} (h : Strung tk c₀ c) (g : Optionally tk BaseToken.StringLiteral c o) where
+  pub strung-again : not (o .found) ≡ false → Strung tk c₀ (o .cursor .0)
+  unfolding string
+  strung-again e =
+      let (p, b) = optional-next g refl (negated (o .found) e) in
+      record {
+        run = λ tv s.
+            goes-round _ (h .run tv s)
+            (λ m. round-again _ _ m (at-here _ then reads _ (optioned g tv) then picked _ _ true (negated (o .found) e)))
+            (omega arith) (omega arith);
+      }
+
+  pub strung-last : not (o .found) ≡ true → Ending tk c₀ (o .cursor)
+  unfolding string
+  strung-last e = record {
+    run = λ tv s.
+        let d = h .run tv s in
+        (d .onto then round-last _ _ (d .rounds) (at-here _ then reads _ (optioned g tv) then picked _ _ false (negated (o .found) e))) .same ∙
+        rw (not-found g (negated (o .found) e)) refl;
+  }
+
+-- an integer with its type
+module _
+    (tv : List ℕ) (at v : ℕ) (peeked : v ≡ kindIn tv at) {c : ℕ} {s : Nodes} {r₁ : Parsed} {ks₁ ls₁ : List ℕ}
+    (g : Gives (append ParseNode.SimpleValueType v) c s r₁ ks₁ ls₁) where
+  typed : Gives (append ParseNode.SimpleValueType (kindIn tv at)) c s r₁ ks₁ ls₁
+  typed = rw (← peeked) g
+
+  pub integer-stopped :
+      {x : ℕ} {a e p : TokenId} {k : ℕ} → r₁ ≡ Refused x a e p k → Unkinded (suffixed at) tv c s r₁ ks₁ ls₁
+  unfolding suffixed typedInteger
+  integer-stopped q = record { run = λ tk. hands-on _ stays (told typed q) }
+
+  pub integer-read :
+      {n : NodeId} {p : TokenId} {k : ℕ} → r₁ ≡ Node n p k → {r : Parsed} {ks ls : List ℕ} →
+      Gives (append ParseNode.TypedIntegerLiteral at) (p .0) (nodes ks₁ ls₁ k) r ks ls →
+      Unkinded (suffixed at) tv c s r ks ls
+  unfolding suffixed typedInteger
+  integer-read q d = record { run = λ tk. shows (reads _ (came-read plain-parsed typed q)) d }
+
+-- strings, of which the first is taken
+module _
+    (tk : List ℕ) (start c : ℕ) {o : Optional} (g : Optionally tk BaseToken.StringLiteral c o) {s : Nodes} where
+  pub one-string :
+      not (o .found) ≡ true → {r : Parsed} {ks ls : List ℕ} →
+      Gives (append ParseNode.SimpleStringLiteral start) (o .cursor .0) s r ks ls →
+      Untyped parsed (joining start) tk c s r ks ls
+  unfolding joining strings
+  one-string e d = record { run = λ tv. shows (reads _ (optioned g tv) then picked _ _ false (negated (o .found) e)) d }
+
+  module _
+      (e : not (o .found) ≡ false) {end : TokenId} (h : Ending tk (o .cursor .0) end) {r₁ : Parsed} {ks₁ ls₁ : List ℕ}
+      (d : Gives (append ParseNode.EndOfSpan (end .0)) (end .0) s r₁ ks₁ ls₁) where
+    joined :
+        (tv : List ℕ) →
+        Onto (strings columns (row tk tv) start) c s
+        (append ParseNode.EndOfSpan (end .0) >>= λ _. append ParseNode.CompositeStringLiteral start) (end .0) s
+    unfolding strings
+    joined tv =
+        reads _ (optioned g tv) then picked _ _ true (negated (o .found) e) then reads _ (record { same = h .run tv s })
+
+    pub strings-stopped :
+        {x : ℕ} {a b p : TokenId} {k : ℕ} → r₁ ≡ Refused x a b p k →
+        Untyped parsed (joining start) tk c s r₁ ks₁ ls₁
+    unfolding joining
+    strings-stopped q = record { run = λ tv. hands-on _ (joined tv) (told d q) }
+
+    pub strings-read :
+        {n : NodeId} {p : TokenId} {k : ℕ} → r₁ ≡ Node n p k → {r : Parsed} {ks ls : List ℕ} →
+        Gives (append ParseNode.CompositeStringLiteral start) (p .0) (nodes ks₁ ls₁ k) r ks ls →
+        Untyped parsed (joining start) tk c s r ks ls
+    unfolding joining
+    strings-read q f = record { run = λ tv. shows (joined tv then reads _ (came-read plain-parsed d q)) f }
+
+-- the literals of one token and one node: the token's kind and the node's
+pub data Plainly : ℕ → ℕ → Type 0 where
+  decimal : Plainly BaseToken.NakedDecimal ParseNode.UntypedIntegerLiteral
+  bits : Plainly BaseToken.BitInteger ParseNode.UntypedIntegerLiteral
+  char : Plainly BaseToken.CharLiteral ParseNode.CharLiteral
+  boolean : Plainly BaseToken.BoolLiteral ParseNode.BooleanLiteral
+
+-- a literal, by its token
+module _ (tk tv : List ℕ) (t c : ℕ) {s : Nodes} where
+  plainly :
+      {key kind : ℕ} → Plainly key kind → t ≡ kindIn tk c → t ≡ key → (expr : Rule Nodes ℕ) →
+      Onto (primary columns (row tk tv) expr) c s (append kind c) (c + 1) s
+  unfolding primary choose
+  plainly decimal p e expr = at-here _ then takes _ _ (sym e ∙ p)
+  plainly bits p e expr = at-here _ then takes _ _ (sym e ∙ p)
+  plainly char p e expr = at-here _ then takes _ _ (sym e ∙ p)
+  plainly boolean p e expr = at-here _ then takes _ _ (sym e ∙ p)
+
+  pub literal-read :
+      {key kind : ℕ} → Plainly key kind → t ≡ key → {r : Parsed} {ks ls : List ℕ} →
+      Gives (append kind c) (c + 1) s r ks ls → Literal tk tv t c s r ks ls
+  literal-read y e g = record { run = λ p _ _ _ _ _ expr. shows (plainly y p e expr) g }
+
+  pub typed-read :
+      t ≡ BaseToken.SuffixedInteger → {r : Parsed} {ks ls : List ℕ} → Unkinded (suffixed c) tv (c + 1) s r ks ls →
+      Literal tk tv t c s r ks ls
+  unfolding primary choose suffixed
+  typed-read e g = record { run = λ p _ _ _ _ _ expr. shows (at-here _ then takes _ _ (sym e ∙ p)) (g .run tk) }
+
+  pub joined-read :
+      t ≡ BaseToken.StringLiteral → {r : Parsed} {ks ls : List ℕ} →
+      Untyped parsed (joining c) tk (c + 1) s r ks ls → Literal tk tv t c s r ks ls
+  unfolding primary choose joining
+  joined-read e g = record { run = λ p _ _ _ _ _ expr. shows (at-here _ then takes _ _ (sym e ∙ p)) (g .run tv) }
+
+pub literal-refused :
+    (tk tv : List ℕ) (t c k : ℕ) (ks ls : List ℕ) →
+    Rest t (Unit {0})
+    (BaseToken.NakedDecimal ∷ BaseToken.BitInteger ∷ BaseToken.SuffixedInteger ∷ BaseToken.CharLiteral ∷
+    BaseToken.BoolLiteral ∷ BaseToken.StringLiteral ∷ []) →
+    Literal tk tv t c (nodes ks ls k) (refusal Refusal.ExpectedPrimary c c (c + 1) k) ks ls
+unfolding primary
+literal-refused tk tv t c k ks ls h = record {
+  run = λ p a b d e f expr. declines (at-here _ then takes _ _ p then beside t _ _ (((((h, a), b), d), e), f));
+}
