@@ -18,6 +18,7 @@ use Rattle.tokens.proofs.Laws.{negated}
 use Rattle.tokens.proofs.Bounds.{optional-next, past-optional}
 use Rattle.types.proofs.Bounds.{after-type}
 use Rattle.casts.specs.Answer.{bitCast}
+use Rattle.rules.specs.Codes.Limit as Limit
 use Rattle.rules.specs.Codes.BaseToken as BaseToken
 use Rattle.rules.specs.Columns.{columns}
 use Rattle.rules.specs.Types.{type}
@@ -26,12 +27,15 @@ use Rattle.rules.proofs.Demand.{below}
 use Rattle.rules.proofs.Forward.{Goes, eased, appends, picks, pures}
 use Rattle.rules.proofs.Moves.{type-moves, cast-moves}
 
-module _ {tk tv ns ls : List ℕ} {c k : ℕ} (u : ℕ) {r : Parsed} {ns' ls' : List ℕ} where
+module _ {tk tv ns ls : List ℕ} {c k : ℕ} (u : ℕ) {r : Parsed} {ns' ls' : List ℕ}
+    (g : Gives (type columns (row tk tv) u) c (nodes ns ls k) r ns' ls') {n : NodeId} {p : TokenId} {j : ℕ}
+    (q : r ≡ Node n p j) (z : Sized tk tv ns ls c k) where
   -- after a type
-  pub type-slots :
-      Gives (type columns (row tk tv) u) c (nodes ns ls k) r ns' ls' → {n : NodeId} {p : TokenId} {j : ℕ} →
-      r ≡ Node n p j → Sized tk tv ns ls c k → Slots ns' ls' j
-  type-slots g q z = slots (after-type u g q z)
+  pub type-slots : Slots ns' ls' j
+  type-slots = slots (after-type u g q z)
+
+  pub type-closing : (p .0 ≤ Limit.Tokens + 1) × Slots ns' ls' j
+  type-closing = let y = after-type u g q z in (omega arith, slots y)
 
 module _ {tk tv ns ls : List ℕ} {c k : ℕ} (u e : ℕ) {r : Parsed} {ns' ls' : List ℕ} where
   -- after a cast

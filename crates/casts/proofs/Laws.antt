@@ -10,13 +10,15 @@ use Rattle.codes.specs.declared.Parsed.{Parsed}
 use Rattle.codes.specs.declared.Parsed.the-variants.{Node, Refused}
 use Rattle.codes.specs.declared.NodeId.{NodeId}
 use Rattle.codes.specs.declared.TokenId.{TokenId}
-use Rattle.codes.specs.Answer.{Gives, nodes, token, nodeId, row, refusal}
+use Rattle.codes.specs.Answer.{Gives, Untyped, parsed, nodes, token, nodeId, row, refusal}
 use Rattle.codes.proofs.Onto.{Onto, _then_, stays, reads, regroup, at-here, answers, shows, told, hands-on, came-read}
-use Rattle.codes.proofs.Onto.{plain-parsed, picked}
+use Rattle.codes.proofs.Onto.{plain-parsed, picked, takes}
 use Rattle.codes.proofs.Loops.{Going, sets-out, goes-round, round, round-again, round-last}
+use Rattle.nodes.specs.Answer.{appendTwo}
 use Rattle.tokens.specs.declared.Optional.{Optional}
 use Rattle.tokens.specs.Answer.{kindIn, Optionally}
 use Rattle.tokens.proofs.Laws.{optioned, missing, negated}
+use Rattle.references.specs.Answer.{closing}
 use Rattle.types.proofs.Laws.{too-deep, keyword-read, name-read, type-stopped, type-single}
 use Rattle.casts.specs.Answer.{Casting, bitCast}
 use Rattle.rules.specs.Codes.BaseToken as BaseToken
@@ -25,7 +27,7 @@ use Rattle.rules.specs.Codes.Refusal as Refusal
 use Rattle.rules.specs.Reading.{Rule, Row, Step, _>>=_, pure, refuse, repeat, loop}
 use Rattle.rules.specs.Columns.{Nodes, append, columns}
 use Rattle.rules.specs.Types.{innerType, type}
-use Rattle.rules.specs.Expressions.{typeCast, coerced, singularEnd}
+use Rattle.rules.specs.Expressions.{sizeOf, typeCast, coerced, singularEnd}
 
 -- a `cast` before a unary
 module _ (tk : List ℕ) (bare : Bool) (c : ℕ) where
@@ -78,22 +80,12 @@ module _
   unfolding typeCast
   cast-stopped q = hands-on _ (at-here _) (told g q)
 
-  module _
-      {n : NodeId} {p : TokenId} {k : ℕ} (q : r₁ ≡ Node n p k) {r₂ : Parsed} {ks₂ ls₂ : List ℕ}
-      (d : Gives (append ParseNode.Item e) (p .0) (nodes ks₁ ls₁ k) r₂ ks₂ ls₂) where
-    pub link-stopped :
-        {x : ℕ} {a b p' : TokenId} {j : ℕ} → r₂ ≡ Refused x a b p' j →
-        Gives (typeCast columns row ty e) c s r₂ ks₂ ls₂
-    unfolding typeCast
-    link-stopped w = hands-on _ (at-here _ then reads _ (came-read plain-parsed g q)) (told d w)
-
-    pub cast-read :
-        {m : NodeId} {p' : TokenId} {j : ℕ} → r₂ ≡ Node m p' j → {r : Parsed} {ks ls : List ℕ} →
-        Gives (append ParseNode.TypeCast c) (p' .0) (nodes ks₂ ls₂ j) r ks ls →
-        Gives (typeCast columns row ty e) c s r ks ls
-    unfolding typeCast
-    cast-read w f =
-        shows (at-here _ then reads _ (came-read plain-parsed g q) then reads _ (came-read plain-parsed d w)) f
+  pub cast-read :
+      {n : NodeId} {p : TokenId} {k : ℕ} → r₁ ≡ Node n p k → {r : Parsed} {ks ls : List ℕ} →
+      Gives (appendTwo ParseNode.Item e ParseNode.TypeCast c) (p .0) (nodes ks₁ ls₁ k) r ks ls →
+      Gives (typeCast columns row ty e) c s r ks ls
+  unfolding typeCast appendTwo
+  cast-read q d = shows (at-here _ then reads _ (came-read plain-parsed g q)) d
 
 -- Between two casts: what is left of the loop over them, of the node e.
 abbrev pub Casts : List ℕ → List ℕ → Rule Nodes ℕ → ℕ → ℕ → Nodes → ℕ → ℕ → Nodes → Type 0
@@ -179,3 +171,20 @@ module _
     singular-alone {t} y z =
         singular-read (answers (round-last _ _ (length tk)
         (reads _ (optioned (missing tk BaseToken.As t (p .0) y z {p = p} refl) tv))))
+
+-- `|:`, whose token is taken, a type and `|`
+module _
+    (tk tv : List ℕ) (ty : Rule Nodes ℕ) (c : ℕ) {s : Nodes} {r₁ : Parsed} {ks₁ ls₁ : List ℕ}
+    (g : Gives ty (c + 1) s r₁ ks₁ ls₁) where
+  pub size-stopped :
+      {x : ℕ} {a b p : TokenId} {k : ℕ} → r₁ ≡ Refused x a b p k →
+      Gives (sizeOf columns (row tk tv) ty) c s r₁ ks₁ ls₁
+  unfolding sizeOf
+  size-stopped q = hands-on _ (takes _ (row tk tv) refl) (told g q)
+
+  pub size-read :
+      {n : NodeId} {p : TokenId} {k : ℕ} → r₁ ≡ Node n p k → {r : Parsed} {ks ls : List ℕ} →
+      Untyped parsed (closing BaseToken.Pipe ParseNode.SizeOf (n .0)) tk (p .0) (nodes ks₁ ls₁ k) r ks ls →
+      Gives (sizeOf columns (row tk tv) ty) c s r ks ls
+  unfolding sizeOf closing
+  size-read q d = shows (takes _ (row tk tv) refl then reads _ (came-read plain-parsed g q)) (d .run tv)

@@ -1,11 +1,12 @@
 // What holds a type and no expression, after parse_singular_expression and parse_unary_expression of the Rust's
 // parser.rs: `cast`, `as` and `|:`.
-ghost use Prim.Native.Nat.{_+_, _≤_};
+ghost use Prim.Native.Nat.{_+_, _≤_, _<_};
+ghost use lib.ListN.{length};
 ghost use Rattle.rules.specs.Codes.Limit as Most;
 ghost use Rattle.rules.specs.Reading.{loop};
 ghost use Rattle.rules.specs.Columns.{columns};
 ghost use Rattle.rules.specs.Types.{type};
-ghost use Rattle.rules.specs.Expressions.{typeCast, coerced, singularEnd};
+ghost use Rattle.rules.specs.Expressions.{sizeOf, typeCast, coerced, singularEnd};
 ghost use Rattle.codes.specs.Answer.{Gives, Sized, row, nodes};
 ghost use Rattle.nodes.specs.Answer.{Slots};
 ghost use Rattle.casts.specs.Answer.{Casting, bitCast};
@@ -16,7 +17,8 @@ use codes::Parsed;
 use codes::Refusal;
 use codes::TokenId;
 use nodes::push;
-use nodes::push_older_node;
+use nodes::push_two;
+use references::push_closed;
 use tokens::Optional;
 use tokens::consume_optional;
 use tokens::peek;
@@ -104,20 +106,13 @@ fn coerce(
     else {
         return coerced;
     };
-    let item = push_older_node(node_kinds, node_loads, after, used, expression);
-    let Parsed::Node {
-        root: _,
-        cursor: last,
-        count: more,
-    } = item
-    else {
-        return item;
-    };
-    push(
+    push_two(
         node_kinds,
         node_loads,
-        last,
-        more,
+        after,
+        used,
+        ParseNode::Item,
+        expression.0,
         ParseNode::TypeCast,
         cursor.0,
     )
@@ -241,6 +236,42 @@ pub fn finish_singular(
         after,
         used,
         unused,
+        root,
+    )
+}
+
+// `|:`, which stands here, a type and `|`. Rust: parse_unary_expression.
+pub fn parse_size_of(
+    kinds: &[u8],
+    types: &[u8],
+    node_kinds: &mut [u8],
+    node_loads: &mut [u32],
+    cursor: TokenId,
+    count: u32,
+    unused: u32,
+) -> Parsed
+    requires { ⌜ Sized (now kinds) (now types) (now «node_kinds») (now «node_loads») (cursor .0) count × (cursor .0 < length (now kinds)) ⌝ }
+    ensures { λ r. ⌜ Gives (sizeOf columns (row (now (kinds .entry)) (now (types .entry))) (type columns (row (now (kinds .entry)) (now (types .entry))) unused)) (cursor .0) (nodes (now («node_kinds» .entry)) (now («node_loads» .entry)) count) r (now («node_kinds» .exit)) (now («node_loads» .exit)) ⌝ }
+{
+    let at = cursor.0;
+    let start = TokenId(at + 1);
+    let queried = parse_type(kinds, types, node_kinds, node_loads, start, count, unused);
+    let Parsed::Node {
+        root,
+        cursor: after,
+        count: used,
+    } = queried
+    else {
+        return queried;
+    };
+    push_closed(
+        kinds,
+        node_kinds,
+        node_loads,
+        after,
+        used,
+        BaseToken::Pipe,
+        ParseNode::SizeOf,
         root,
     )
 }

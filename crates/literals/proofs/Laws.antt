@@ -13,6 +13,7 @@ use Rattle.codes.specs.Answer.{Gives, Untyped, parsed, nodes, token, row, refus
 use Rattle.codes.proofs.Onto.{Onto, _then_, stays, reads, at-here, takes, declines, shows, told, hands-on, came-read}
 use Rattle.codes.proofs.Onto.{plain-parsed, Rest, beside, picked}
 use Rattle.codes.proofs.Loops.{Going, sets-out, goes-round, round-again, round-last}
+use Rattle.nodes.specs.Answer.{appendTwo}
 use Rattle.tokens.specs.declared.Optional.{Optional}
 use Rattle.tokens.specs.Answer.{kindIn, Optionally}
 use Rattle.tokens.proofs.Laws.{optioned, not-found, negated}
@@ -58,23 +59,12 @@ module _ (tk : List ℕ) (c₀ c : ℕ) {o : Optional} (h : Strung tk c₀ c) (g
   }
 
 -- an integer with its type
-module _
-    (tv : List ℕ) (at v : ℕ) (peeked : v ≡ kindIn tv at) {c : ℕ} {s : Nodes} {r₁ : Parsed} {ks₁ ls₁ : List ℕ}
-    (g : Gives (append ParseNode.SimpleValueType v) c s r₁ ks₁ ls₁) where
-  typed : Gives (append ParseNode.SimpleValueType (kindIn tv at)) c s r₁ ks₁ ls₁
-  typed = rw (← peeked) g
-
-  pub integer-stopped :
-      {x : ℕ} {a e p : TokenId} {k : ℕ} → r₁ ≡ Refused x a e p k → Unkinded (suffixed at) tv c s r₁ ks₁ ls₁
-  unfolding suffixed typedInteger
-  integer-stopped q = record { run = λ tk. hands-on _ stays (told typed q) }
-
-  pub integer-read :
-      {n : NodeId} {p : TokenId} {k : ℕ} → r₁ ≡ Node n p k → {r : Parsed} {ks ls : List ℕ} →
-      Gives (append ParseNode.TypedIntegerLiteral at) (p .0) (nodes ks₁ ls₁ k) r ks ls →
-      Unkinded (suffixed at) tv c s r ks ls
-  unfolding suffixed typedInteger
-  integer-read q d = record { run = λ tk. shows (reads _ (came-read plain-parsed typed q)) d }
+pub integer-read :
+    (tv : List ℕ) (at v : ℕ) → v ≡ kindIn tv at → {c : ℕ} {s : Nodes} {r : Parsed} {ks ls : List ℕ} →
+    Gives (appendTwo ParseNode.SimpleValueType v ParseNode.TypedIntegerLiteral at) c s r ks ls →
+    Unkinded (suffixed at) tv c s r ks ls
+unfolding suffixed typedInteger appendTwo
+integer-read tv at v peeked g = record { run = λ tk. rw (← peeked) g }
 
 -- strings, of which the first is taken
 module _
@@ -86,29 +76,16 @@ module _
   unfolding joining strings
   one-string e d = record { run = λ tv. shows (reads _ (optioned g tv) then picked _ _ false (negated (o .found) e)) d }
 
-  module _
-      (e : not (o .found) ≡ false) {end : TokenId} (h : Ending tk (o .cursor .0) end) {r₁ : Parsed} {ks₁ ls₁ : List ℕ}
-      (d : Gives (append ParseNode.EndOfSpan (end .0)) (end .0) s r₁ ks₁ ls₁) where
-    joined :
-        (tv : List ℕ) →
-        Onto (strings columns (row tk tv) start) c s
-        (append ParseNode.EndOfSpan (end .0) >>= λ _. append ParseNode.CompositeStringLiteral start) (end .0) s
-    unfolding strings
-    joined tv =
-        reads _ (optioned g tv) then picked _ _ true (negated (o .found) e) then reads _ (record { same = h .run tv s })
-
-    pub strings-stopped :
-        {x : ℕ} {a b p : TokenId} {k : ℕ} → r₁ ≡ Refused x a b p k →
-        Untyped parsed (joining start) tk c s r₁ ks₁ ls₁
-    unfolding joining
-    strings-stopped q = record { run = λ tv. hands-on _ (joined tv) (told d q) }
-
-    pub strings-read :
-        {n : NodeId} {p : TokenId} {k : ℕ} → r₁ ≡ Node n p k → {r : Parsed} {ks ls : List ℕ} →
-        Gives (append ParseNode.CompositeStringLiteral start) (p .0) (nodes ks₁ ls₁ k) r ks ls →
-        Untyped parsed (joining start) tk c s r ks ls
-    unfolding joining
-    strings-read q f = record { run = λ tv. shows (joined tv then reads _ (came-read plain-parsed d q)) f }
+  pub strings-read :
+      not (o .found) ≡ false → {end : TokenId} → Ending tk (o .cursor .0) end → {r : Parsed} {ks ls : List ℕ} →
+      Gives (appendTwo ParseNode.EndOfSpan (end .0) ParseNode.CompositeStringLiteral start) (end .0) s r ks ls →
+      Untyped parsed (joining start) tk c s r ks ls
+  unfolding joining strings appendTwo
+  strings-read e h d = record {
+    run = λ tv.
+        shows (reads _ (optioned g tv) then picked _ _ true (negated (o .found) e) then
+        reads _ (record { same = h .run tv s })) d;
+  }
 
 -- the literals of one token and one node: the token's kind and the node's
 pub data Plainly : ℕ → ℕ → Type 0 where

@@ -11,6 +11,7 @@ use codes::Parsed;
 use codes::Refusal;
 use codes::TokenId;
 use nodes::push;
+use nodes::push_two;
 use tokens::consume_optional;
 use tokens::peek;
 
@@ -55,27 +56,13 @@ fn parse_strings(
         );
     }
     let end = end_of_strings(kinds, after);
-    let span = push(
+    push_two(
         node_kinds,
         node_loads,
         end,
         count,
         ParseNode::EndOfSpan,
         end.0,
-    );
-    let Parsed::Node {
-        root: _,
-        cursor: last,
-        count: used,
-    } = span
-    else {
-        return span;
-    };
-    push(
-        node_kinds,
-        node_loads,
-        last,
-        used,
         ParseNode::CompositeStringLiteral,
         start.0,
     )
@@ -94,27 +81,13 @@ fn push_typed_integer(
     ensures { λ r. ⌜ Unkinded (suffixed (at .0)) (now (types .entry)) (cursor .0) (nodes (now («node_kinds» .entry)) (now («node_loads» .entry)) count) r (now («node_kinds» .exit)) (now («node_loads» .exit)) ⌝ }
 {
     let value_type = peek(types, at);
-    let simple = push(
+    push_two(
         node_kinds,
         node_loads,
         cursor,
         count,
         ParseNode::SimpleValueType,
         value_type as u32,
-    );
-    let Parsed::Node {
-        root: _,
-        cursor: after,
-        count: used,
-    } = simple
-    else {
-        return simple;
-    };
-    push(
-        node_kinds,
-        node_loads,
-        after,
-        used,
         ParseNode::TypedIntegerLiteral,
         at.0,
     )

@@ -16,10 +16,10 @@ use Rattle.nodes.specs.declared.ActiveList.{ActiveList}
 use Rattle.nodes.specs.declared.ActiveList.the-variants.{Empty, Open}
 use Rattle.nodes.specs.declared.Listed.{Listed}
 use Rattle.nodes.specs.declared.Listed.the-variants.{List as Items, Full}
-use Rattle.nodes.specs.Answer.{ends, active, past, listed}
+use Rattle.nodes.specs.Answer.{ends, active, past, listed, appendTwo}
 use Rattle.rules.specs.Codes.ParseNode as ParseNode
 use Rattle.rules.specs.Codes.Refusal as Refusal
-use Rattle.rules.specs.Reading.{_>>=_}
+use Rattle.rules.specs.Reading.{Rule, pure, _>>=_}
 use Rattle.rules.specs.Columns.{Nodes, Ends, append, patch, extended, ended, pushListItem, pushEndOfList}
 
 -- an append, by whether there is a slot
@@ -34,10 +34,59 @@ module _ (k l c : ℕ) (ks ls : List ℕ) (n : ℕ) where
   unfolding append
   full h = declines (record { same = rw (le-ltb _ _ h) refl })
 
+-- two nodes
+module _ (kind load kind' load' : ℕ) {c : ℕ} {s : Nodes} {r₁ : Parsed} {ks₁ ls₁ : List ℕ}
+    (g : Gives (append kind load) c s r₁ ks₁ ls₁) where
+  pub two-refused :
+      {x : ℕ} {a e p : TokenId} {j : ℕ} → r₁ ≡ Refused x a e p j →
+      Gives (appendTwo kind load kind' load') c s r₁ ks₁ ls₁
+  unfolding appendTwo
+  two-refused q = hands-on _ stays (told g q)
+
+  pub two-read :
+      {n : NodeId} {p : TokenId} {j : ℕ} → r₁ ≡ Node n p j → {r : Parsed} {ks ls : List ℕ} →
+      Gives (append kind' load') (p .0) (nodes ks₁ ls₁ j) r ks ls →
+      Gives (appendTwo kind load kind' load') c s r ks ls
+  unfolding appendTwo
+  two-read q d = shows (reads _ (came-read plain-parsed g q)) d
+
+-- an open list is told by its ends
+pub ends-active : (l : Option Ends) → ends (active l) ≡ l
+ends-active none = refl
+ends-active (some e) = refl
+
+pub active-ends : (l : ActiveList) → active (ends l) ≡ l
+active-ends Empty = refl
+active-ends (Open f e) = refl
+
+pub holding-listed : Holding listed
+holding-listed = record {
+  plain = record {
+    read-same = λ a a' c c' k k' e.
+        let x : active a ≡ active a' = cc in
+        let y : token c ≡ token c' = cc in
+        (sym (ends-active a) ∙ ap ends x ∙ ends-active a', ap (λ (t : TokenId). t .0) y, (cc));
+    refused-same = λ r r' e. cc;
+    apart = λ a c k n x y c' k' e. let z : _≡_ {A = ℕ} 0 1 = cc in omega arith;
+  };
+  holds = λ a c k r e. let z : _≡_ {A = ℕ} 0 1 = cc in omega arith;
+}
+
+-- the list with one item more, by the answer
+pub came-listed :
+    {m : Rule Nodes (Option Ends)} {c : ℕ} {s : Nodes} {o : Listed} {ks ls : List ℕ} → As listed m c s o ks ls →
+    {l : ActiveList} {p : TokenId} {j : ℕ} → o ≡ Items l p j → Onto m c s (pure (ends l)) (p .0) (nodes ks ls j)
+came-listed g {l} {p} {j} q = came-read (holding-listed .plain) g (q ∙ ap (λ m. Items m p j) (sym (active-ends l)))
+
 -- the place after the last item
 pub past-last : {l : ActiveList} {f e : NodeId} → l ≡ Open f e → past l ≡ e .0 + 1
 unfolding past
 past-last q = rw q
+
+pub past-none : (l : ActiveList) → ends l ≡ none → past l ≡ 0
+unfolding past
+past-none Empty q = refl
+past-none (Open f e) q = let z : _≡_ {A = ℕ} 0 1 = cc in absurd (omega arith)
 
 -- what a patch leaves
 abbrev pub Patched : List ℕ → List ℕ → ℕ → ℕ → List ℕ → List ℕ → Type 0

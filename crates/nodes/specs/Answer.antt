@@ -10,7 +10,8 @@ use Rattle.nodes.specs.declared.ActiveList.the-variants.{Empty, Open}
 use Rattle.nodes.specs.declared.Listed.{Listed}
 use Rattle.nodes.specs.declared.Listed.the-variants.{List as Items, Full}
 use Rattle.rules.specs.Codes.Limit as Limit
-use Rattle.rules.specs.Columns.{Ends}
+use Rattle.rules.specs.Reading.{Rule, _>>=_}
+use Rattle.rules.specs.Columns.{Nodes, Ends, append}
 
 -- What is taken for granted of the node columns, kinds ks and loads ls, and of the node count.
 pub record Slots (ks ls : List ℕ) (count : ℕ) : Type 0 where
@@ -35,3 +36,9 @@ past (Open f l) = l .0 + 1
 -- a list with one item more
 abbrev pub listed : Form (Option Ends) Listed
 listed = record { read = λ l cursor count. Items (active l) (token cursor) count; refused = Full }
+
+-- two nodes, of which the second one is what is read
+unfoldable pub appendTwo : ℕ → ℕ → ℕ → ℕ → Rule Nodes ℕ
+appendTwo kind load kind' load' = do
+  _ ← append kind load
+  append kind' load'

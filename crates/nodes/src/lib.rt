@@ -7,7 +7,7 @@ ghost use lib.ListN.{length, set};
 ghost use Rattle.rules.specs.Codes.ParseNode as Kind;
 ghost use Rattle.rules.specs.Columns.{append, pushListItem, pushEndOfList};
 ghost use Rattle.codes.specs.Answer.{As, Gives, nodes};
-ghost use Rattle.nodes.specs.Answer.{listed, ends, past, Slots};
+ghost use Rattle.nodes.specs.Answer.{listed, ends, past, Slots, appendTwo};
 use codes::NodeId;
 use codes::ParseNode;
 use codes::Parsed;
@@ -62,6 +62,39 @@ pub fn push(
             count,
         }
     }
+}
+
+// Two nodes are appended.
+pub fn push_two(
+    node_kinds: &mut [u8],
+    node_loads: &mut [u32],
+    cursor: TokenId,
+    count: u32,
+    kind: u8,
+    load: u32,
+    second_kind: u8,
+    second_load: u32,
+) -> Parsed
+    requires { ⌜ Slots (now «node_kinds») (now «node_loads») count ⌝ }
+    ensures { λ r. ⌜ Gives (appendTwo kind load «second_kind» «second_load») (cursor .0) (nodes (now («node_kinds» .entry)) (now («node_loads» .entry)) count) r (now («node_kinds» .exit)) (now («node_loads» .exit)) ⌝ }
+{
+    let first = push(node_kinds, node_loads, cursor, count, kind, load);
+    let Parsed::Node {
+        root: _,
+        cursor: after,
+        count: used,
+    } = first
+    else {
+        return first;
+    };
+    push(
+        node_kinds,
+        node_loads,
+        after,
+        used,
+        second_kind,
+        second_load,
+    )
 }
 
 // A node that links to one before it.

@@ -26,12 +26,15 @@ pub in-row : (tk : List ℕ) (c t key : ℕ) → t ≡ kindIn tk c → t ≡ key
 in-row tk c t key p e z = below (row tk tk) .within c (λ q. eqb-false key 0 z (sym e ∙ p ∙ q))
 
 -- it is passed
+pub past-here :
+    {tk tv ns ls : List ℕ} {c k : ℕ} → c < length tk → Sized tk tv ns ls c k → Sized tk tv ns ls (c + 1) k
+past-here b z =
+    record { types = z .types; tokens = z .tokens; at = omega arith; loads = z .loads; slots = z .slots; used = z .used }
+
 pub past-token :
     {tk tv ns ls : List ℕ} {c k : ℕ} (t key : ℕ) → t ≡ kindIn tk c → t ≡ key → Nonzero key →
     Sized tk tv ns ls c k → Sized tk tv ns ls (c + 1) k
-past-token {tk} {c = c} t key p e n z =
-    let b : c < length tk = in-row tk c t key p e n in
-    record { types = z .types; tokens = z .tokens; at = omega arith; loads = z .loads; slots = z .slots; used = z .used }
+past-token {tk} {c = c} t key p e n z = past-here (in-row tk c t key p e n) z
 
 -- the cursor and the count after a token that was expected
 module _ {tk : List ℕ} {c k : ℕ} (key : ℕ) {o : Consumed} (g : Quiet consumed (consuming key) tk c k o) {p : TokenId} {j : ℕ} (q : o ≡ Next p j) where

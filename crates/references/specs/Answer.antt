@@ -1,0 +1,61 @@
+-- The answers of the code as the rules give them.
+use Prim.Native.Nat.{ℕ}
+use mathlib.Core.List.{List}
+use mathlib.Core.Option.{Option}
+use Rattle.codes.specs.Answer.{Form, As, token}
+use Rattle.nodes.specs.Answer.{active}
+use Rattle.references.specs.declared.Ampersands.{Ampersands}
+use Rattle.references.specs.declared.Ampersands.the-variants.{Depth, Refused as NoDepth}
+use Rattle.references.specs.declared.Address.{Address}
+use Rattle.references.specs.declared.Address.the-variants.{Name, Refused as NoName}
+use Rattle.references.specs.declared.Stepped.{Stepped}
+use Rattle.references.specs.declared.Stepped.the-variants.{More, Last, Refused as NoStep}
+use Rattle.rules.specs.Reading.{Rule, Row, Step, again, done, _>>=_}
+use Rattle.rules.specs.Columns.{Nodes, Ends, columns, pushEndOfList}
+use Rattle.rules.specs.Expressions.{closed, ampersands, address, deref, stepEnd, elementEnd, member}
+
+-- a number of ampersands
+abbrev pub depths : Form ℕ Ampersands
+depths = record { read = λ depth cursor count. Depth depth (token cursor) count; refused = NoDepth }
+
+-- a number of ampersands and a name
+abbrev pub addressed : Form (ℕ × ℕ) Address
+addressed = record { read = λ a cursor count. Name (a .0) (token (a .1)) (token cursor) count; refused = NoName }
+
+-- a step more, or the whole list
+abbrev pub stepOf : Step (Option Ends) (Option Ends) → ℕ → ℕ → Stepped
+stepOf (again l) cursor count = More (active l) (token cursor) count
+stepOf (done l) cursor count = Last (active l) (token cursor) count
+
+abbrev pub stepped : Form (Step (Option Ends) (Option Ends)) Stepped
+stepped = record { read = stepOf; refused = NoStep }
+
+-- The same of a reader that reads no token: whatever the row is.
+pub record Unread {A R : Type 0} (F : Form A R) (m : Row → Rule Nodes A) (c : ℕ) (s : Nodes) (r : R) (ks ls : List ℕ) :
+    Type 0 where
+  pub run : (row : Row) → As F (m row) c s r ks ls
+
+-- the rules of any row
+unfoldable pub closing : ℕ → ℕ → ℕ → Row → Rule Nodes ℕ
+closing token kind inside row = closed columns row token kind inside
+
+unfoldable pub counting : ℕ → Row → Rule Nodes ℕ
+counting start row = ampersands columns row start
+
+unfoldable pub addressing : ℕ → Row → Rule Nodes (ℕ × ℕ)
+addressing start row = address columns row start
+
+unfoldable pub stepping : Option Ends → ℕ → Row → Rule Nodes (Step (Option Ends) (Option Ends))
+stepping l content row = stepEnd columns row l content
+
+unfoldable pub elementing : Option Ends → ℕ → Row → Rule Nodes (Step (Option Ends) (Option Ends))
+elementing l index row = elementEnd columns row l index
+
+unfoldable pub membering : Option Ends → Row → Rule Nodes (Step (Option Ends) (Option Ends))
+membering l row = member columns row l
+
+-- the end of a reference's steps, and its nodes
+unfoldable pub derefEnd : Option Ends → ℕ → ℕ → ℕ → Rule Nodes ℕ
+derefEnd l start depth name = do
+  steps ← pushEndOfList l
+  deref columns start depth name steps
