@@ -1,9 +1,10 @@
 -- What the readers of casts take for granted holds where they are called, and after them.
 use mathlib.Core.Path.{_≡_, refl}
-use mathlib.Core.Bool.{Bool, true, false, not}
+use mathlib.Core.Bool.{Bool, false, not}
 use mathlib.Core.List.{List}
-use Prim.Native.Nat.{ℕ, _+_, _≤_, _<_}
+use Prim.Native.Nat.{ℕ, _+_, _-_, _≤_, _<_}
 use native.Mathlib.Omega.{arith}
+use lib.ListN.{length}
 use Rattle.codes.specs.declared.Parsed.{Parsed}
 use Rattle.codes.specs.declared.Parsed.the-variants.{Node}
 use Rattle.codes.specs.declared.NodeId.{NodeId}
@@ -24,7 +25,7 @@ use Rattle.rules.specs.Columns.{columns}
 use Rattle.rules.specs.Types.{type}
 use Rattle.rules.specs.Expressions.{typeCast}
 use Rattle.rules.proofs.Demand.{below}
-use Rattle.rules.proofs.Forward.{Goes, eased, appends, picks, pures}
+use Rattle.rules.proofs.Forward.{eased, appends, picks, pures}
 use Rattle.rules.proofs.Moves.{type-moves, cast-moves}
 
 module _ {tk tv ns ls : List ℕ} {c k : ℕ} (u : ℕ) {r : Parsed} {ns' ls' : List ℕ}
@@ -34,8 +35,8 @@ module _ {tk tv ns ls : List ℕ} {c k : ℕ} (u : ℕ) {r : Parsed} {ns' ls' : 
   pub type-slots : Slots ns' ls' j
   type-slots = slots (after-type u g q z)
 
-  pub type-closing : (p .0 ≤ Limit.Tokens + 1) × Slots ns' ls' j
-  type-closing = let y = after-type u g q z in (omega arith, slots y)
+  pub type-at : p .0 ≤ Limit.Tokens + 1
+  type-at = let y = after-type u g q z in omega arith
 
 module _ {tk tv ns ls : List ℕ} {c k : ℕ} (u e : ℕ) {r : Parsed} {ns' ls' : List ℕ} where
   -- after a cast
@@ -47,17 +48,24 @@ module _ {tk tv ns ls : List ℕ} {c k : ℕ} (u e : ℕ) {r : Parsed} {ns' ls' 
       sized-after z plain-parsed
       (cast-moves (below (row tk tv)) (omega arith) (type-moves (below (row tk tv)) (omega arith) u) e c) g q
 
-module _ {tk tv ns ls : List ℕ} {c k : ℕ} (u e : ℕ) {r : Parsed} {ns' ls' : List ℕ} where
-  -- after an `as` and its cast
-  pub after-as :
-      {o : Optional} → Optionally tk BaseToken.As c o → not (o .found) ≡ false →
-      Gives (typeCast columns (row tk tv) (type columns (row tk tv) u) e) (o .cursor .0) (nodes ns ls k) r ns' ls' →
-      {n : NodeId} {p : TokenId} {j : ℕ} → r ≡ Node n p j → Sized tk tv ns ls c k →
-      Sized tk tv ns' ls' (p .0) j × (c < p .0)
-  after-as {o} d x g q z =
-      let (y, b) = after-cast u e g q (past-optional d refl z) in
+-- after an `as` and its cast
+module _
+    {tk tv ns ls : List ℕ} {c k : ℕ} (u e : ℕ) {r : Parsed} {ns' ls' : List ℕ} {o : Optional}
+    (d : Optionally tk BaseToken.As c o) (x : not (o .found) ≡ false)
+    (g : Gives (typeCast columns (row tk tv) (type columns (row tk tv) u) e) (o .cursor .0) (nodes ns ls k) r ns' ls')
+    {n : NodeId} {p : TokenId} {j : ℕ} (q : r ≡ Node n p j) (z : Sized tk tv ns ls c k) where
+  pub after-as : Sized tk tv ns' ls' (p .0) j
+  after-as = after-cast u e g q (past-optional d refl z) .0
+
+  pub as-moves : c < p .0
+  as-moves =
+      let b = after-cast u e g q (past-optional d refl z) .1 in
       let (w, v) = optional-next d refl (negated (o .found) x) in
-      (y, omega arith)
+      omega arith
+
+  -- fewer tokens are left
+  pub as-less : length tk - p .0 < length tk - c
+  as-less = let y = after-as in let b = as-moves in omega arith
 
 -- after the node of a `cast`
 pub after-bit-cast :

@@ -2,7 +2,7 @@
 use mathlib.Core.Path.{_≡_, refl, sym, _∙_}
 use mathlib.Core.Bool.{Bool, true, false, not, true≢false}
 use mathlib.Core.List.{List}
-use Prim.Native.Nat.{ℕ, _+_, _≤_, _<_}
+use Prim.Native.Nat.{ℕ, _+_}
 use native.Mathlib.Omega.{arith}
 use lib.ListN.{length}
 use lib.Dec.{ltb}
@@ -10,8 +10,8 @@ use Rattle.codes.specs.declared.Parsed.{Parsed}
 use Rattle.codes.specs.declared.Parsed.the-variants.{Node, Refused}
 use Rattle.codes.specs.declared.NodeId.{NodeId}
 use Rattle.codes.specs.declared.TokenId.{TokenId}
-use Rattle.codes.specs.Answer.{Gives, Untyped, parsed, nodes, token, nodeId, row, refusal}
-use Rattle.codes.proofs.Onto.{Onto, _then_, stays, reads, regroup, at-here, answers, shows, told, hands-on, came-read}
+use Rattle.codes.specs.Answer.{Gives, Untyped, Sized, parsed, nodes, token, nodeId, row, refusal}
+use Rattle.codes.proofs.Onto.{_then_, stays, reads, regroup, at-here, answers, shows, told, hands-on, came-read}
 use Rattle.codes.proofs.Onto.{plain-parsed, picked, takes}
 use Rattle.codes.proofs.Loops.{Going, sets-out, goes-round, round, round-again, round-last}
 use Rattle.nodes.specs.Answer.{appendTwo}
@@ -21,10 +21,11 @@ use Rattle.tokens.proofs.Laws.{optioned, missing, negated}
 use Rattle.references.specs.Answer.{closing}
 use Rattle.types.proofs.Laws.{too-deep, keyword-read, name-read, type-stopped, type-single}
 use Rattle.casts.specs.Answer.{Casting, bitCast}
+use Rattle.casts.proofs.Bounds.{after-as, as-moves}
 use Rattle.rules.specs.Codes.BaseToken as BaseToken
 use Rattle.rules.specs.Codes.ParseNode as ParseNode
 use Rattle.rules.specs.Codes.Refusal as Refusal
-use Rattle.rules.specs.Reading.{Rule, Row, Step, _>>=_, pure, refuse, repeat, loop}
+use Rattle.rules.specs.Reading.{Rule, Row, refuse, repeat, loop}
 use Rattle.rules.specs.Columns.{Nodes, append, columns}
 use Rattle.rules.specs.Types.{innerType, type}
 use Rattle.rules.specs.Expressions.{sizeOf, typeCast, coerced, singularEnd}
@@ -108,29 +109,32 @@ module _
       answers (h .onto then round-last _ _ (h .rounds)
       (reads _ (optioned g tv) then picked _ _ false (negated (o .found) x)))
 
-  module _
-      (x : not (o .found) ≡ false) {r₁ : Parsed} {ks₁ ls₁ : List ℕ}
-      (d : Gives (typeCast columns (row tk tv) ty e) (o .cursor .0) (nodes ks ls k) r₁ ks₁ ls₁) where
-    pub casts-stopped :
-        {y : ℕ} {a b p : TokenId} {j : ℕ} → r₁ ≡ Refused y a b p j →
-        Gives (loop (row tk tv) (coerced columns (row tk tv) ty) e₀) c₀ s₀ r₁ ks₁ ls₁
-    unfolding coerced
-    casts-stopped q =
-        hands-on _
-        (h .onto then round _ _ (h .rounds) (reads _ (optioned g tv) then picked _ _ true (negated (o .found) x)) then
-        regroup _ _ _ _ _)
-        (told d q)
+  pub casts-stopped :
+      not (o .found) ≡ false → {r₁ : Parsed} {ks₁ ls₁ : List ℕ} →
+      Gives (typeCast columns (row tk tv) ty e) (o .cursor .0) (nodes ks ls k) r₁ ks₁ ls₁ →
+      {y : ℕ} {a b p : TokenId} {j : ℕ} → r₁ ≡ Refused y a b p j →
+      Gives (loop (row tk tv) (coerced columns (row tk tv) ty) e₀) c₀ s₀ r₁ ks₁ ls₁
+  unfolding coerced
+  casts-stopped x d q =
+      hands-on _
+      (h .onto then round _ _ (h .rounds) (reads _ (optioned g tv) then picked _ _ true (negated (o .found) x)) then
+      regroup _ _ _ _ _)
+      (told d q)
 
-    pub casts-again :
-        {n : NodeId} {p : TokenId} {j : ℕ} → r₁ ≡ Node n p j → c < p .0 → p .0 ≤ length tk →
-        Casts tk tv ty e₀ c₀ s₀ (n .0) (p .0) (nodes ks₁ ls₁ j)
-    unfolding coerced
-    casts-again q b b' =
-        goes-round _ h
-        (λ m. round-again _ _ m
-        (reads _ (optioned g tv) then picked _ _ true (negated (o .found) x) then
-        reads _ (came-read plain-parsed d q)))
-        b b'
+-- another round, after a cast
+module _
+    (tk tv : List ℕ) (u e₀ c₀ : ℕ) {s₀ : Nodes} (e c k : ℕ) {ks ls : List ℕ}
+    (h : Casts tk tv (type columns (row tk tv) u) e₀ c₀ s₀ e c (nodes ks ls k)) {o : Optional}
+    (g : Optionally tk BaseToken.As c o) (x : not (o .found) ≡ false) {r₁ : Parsed} {ks₁ ls₁ : List ℕ}
+    (d : Gives (typeCast columns (row tk tv) (type columns (row tk tv) u) e) (o .cursor .0) (nodes ks ls k) r₁ ks₁ ls₁)
+    {n : NodeId} {p : TokenId} {j : ℕ} (q : r₁ ≡ Node n p j) (z : Sized tk tv ks ls c k) where
+  pub casts-again : Casts tk tv (type columns (row tk tv) u) e₀ c₀ s₀ (n .0) (p .0) (nodes ks₁ ls₁ j)
+  unfolding coerced
+  casts-again =
+      goes-round _ h
+      (λ m. round-again _ _ m
+      (reads _ (optioned g tv) then picked _ _ true (negated (o .found) x) then reads _ (came-read plain-parsed d q)))
+      (as-moves u e g x d q z) (after-as u e g x d q z .at)
 
 -- the node of a `cast`, or none
 module _ (cast : Bool) (at e c : ℕ) where

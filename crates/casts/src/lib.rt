@@ -24,7 +24,7 @@ use tokens::consume_optional;
 use tokens::peek;
 use types::parse_type;
 
-// A `cast` before a unary; a bare unary has none.
+// A `cast` before a unary. One that is `bare`, an operand of a bitwise operator or of a shift, has none.
 pub fn optional_cast(kinds: &[u8], cursor: TokenId, bare: bool) -> Optional
     requires { ⌜ cursor .0 ≤ Most.Tokens + 1 ⌝ }
     ensures { λ r. ⌜ Casting (now (kinds .entry)) bare (cursor .0) r ⌝ }
@@ -39,7 +39,7 @@ pub fn optional_cast(kinds: &[u8], cursor: TokenId, bare: bool) -> Optional
     }
 }
 
-// A type. One of a single token is read here, since the call for a type inside a type costs more than all else.
+// A type. One of a single token is read here: the reader that calls itself costs more to call than this takes.
 fn parse_coerced_type(
     kinds: &[u8],
     types: &[u8],
@@ -200,7 +200,7 @@ fn push_bit_cast(
     }
 }
 
-// After the unary of a singular: the node of its `cast`, and each `as`. Rust: parse_singular_expression.
+// After the unary of a singular: the node of its `cast`, whose token is at `at`, and each `as`.
 pub fn finish_singular(
     kinds: &[u8],
     types: &[u8],
@@ -240,7 +240,7 @@ pub fn finish_singular(
     )
 }
 
-// `|:`, which stands here, a type and `|`. Rust: parse_unary_expression.
+// `|:`, which stands here, a type and `|`.
 pub fn parse_size_of(
     kinds: &[u8],
     types: &[u8],

@@ -2,16 +2,14 @@
 use mathlib.Core.Path.{_≡_, refl, sym, _∙_}
 use mathlib.Core.Bool.{Bool, true, false, not}
 use mathlib.Core.List.{List, [], _∷_}
-use Prim.Native.Nat.{ℕ, _+_, _≤_, _<_}
+use Prim.Native.Nat.{ℕ, _+_}
 use native.Mathlib.Omega.{arith}
 use lib.ListN.{length}
 use Rattle.codes.specs.declared.Parsed.{Parsed}
-use Rattle.codes.specs.declared.Parsed.the-variants.{Node, Refused}
-use Rattle.codes.specs.declared.NodeId.{NodeId}
 use Rattle.codes.specs.declared.TokenId.{TokenId}
 use Rattle.codes.specs.Answer.{Gives, Untyped, parsed, nodes, token, row, refusal}
-use Rattle.codes.proofs.Onto.{Onto, _then_, stays, reads, at-here, takes, declines, shows, told, hands-on, came-read}
-use Rattle.codes.proofs.Onto.{plain-parsed, Rest, beside, picked}
+use Rattle.codes.proofs.Onto.{Onto, _then_, stays, reads, at-here, takes, declines, shows}
+use Rattle.codes.proofs.Onto.{Rest, beside, picked}
 use Rattle.codes.proofs.Loops.{Going, sets-out, goes-round, round-again, round-last}
 use Rattle.nodes.specs.Answer.{appendTwo}
 use Rattle.tokens.specs.declared.Optional.{Optional}
@@ -19,10 +17,11 @@ use Rattle.tokens.specs.Answer.{kindIn, Optionally}
 use Rattle.tokens.proofs.Laws.{optioned, not-found, negated}
 use Rattle.tokens.proofs.Bounds.{optional-next}
 use Rattle.literals.specs.Answer.{Ending, Unkinded, Literal, joining, suffixed}
+use Rattle.rules.specs.Codes.{pick}
 use Rattle.rules.specs.Codes.BaseToken as BaseToken
 use Rattle.rules.specs.Codes.ParseNode as ParseNode
 use Rattle.rules.specs.Codes.Refusal as Refusal
-use Rattle.rules.specs.Reading.{Rule, Row, kindOf, _>>=_, pure, refuse, choose, repeat, loop}
+use Rattle.rules.specs.Reading.{Rule, pure, refuse, choose, again, done, repeat, loop}
 use Rattle.rules.specs.Columns.{Nodes, append, columns}
 use Rattle.rules.specs.Expressions.{string, strings, typedInteger, primary}
 
@@ -37,26 +36,32 @@ pub strung-first : (tk : List ℕ) (c : ℕ) → Strung tk c c
 unfolding loop
 strung-first tk c = record { run = λ tv s. sets-out _ stays }
 
-module _ (tk : List ℕ) (c₀ c : ℕ) {o : Optional} (h : Strung tk c₀ c) (g : Optionally tk BaseToken.StringLiteral c o) where
-  pub strung-again : not (o .found) ≡ false → Strung tk c₀ (o .cursor .0)
+module _
+    (tk : List ℕ) (c₀ c : ℕ) {o : Optional} (h : Strung tk c₀ c) (g : Optionally tk BaseToken.StringLiteral c o) where
+  -- a round, by whether there is a string
+  one-more :
+      (tv : List ℕ) {s : Nodes} (v : Bool) → o .found ≡ v →
+      Onto (string columns (row tk tv) tt) c s (pick v (pure (again tt)) (pure (done c))) (o .cursor .0) s
   unfolding string
+  one-more tv v e = at-here _ then reads _ (optioned g tv) then picked _ _ v e
+
+  pub strung-again : not (o .found) ≡ false → Strung tk c₀ (o .cursor .0)
   strung-again e =
-      let (p, b) = optional-next g refl (negated (o .found) e) in
+      let f = negated (o .found) e in
+      let (p, b) = optional-next g refl f in
       record {
         run = λ tv s.
-            goes-round _ (h .run tv s)
-            (λ m. round-again _ _ m (at-here _ then reads _ (optioned g tv) then picked _ _ true (negated (o .found) e)))
-            (omega arith) (omega arith);
+            goes-round _ (h .run tv s) (λ m. round-again _ _ m (one-more tv true f)) (omega arith) (omega arith);
       }
 
   pub strung-last : not (o .found) ≡ true → Ending tk c₀ (o .cursor)
-  unfolding string
-  strung-last e = record {
-    run = λ tv s.
-        let d = h .run tv s in
-        (d .onto then round-last _ _ (d .rounds) (at-here _ then reads _ (optioned g tv) then picked _ _ false (negated (o .found) e))) .same ∙
-        rw (not-found g (negated (o .found) e)) refl;
-  }
+  strung-last e =
+      let f = negated (o .found) e in
+      record {
+        run = λ tv s.
+            let d = h .run tv s in
+            (d .onto then round-last _ _ (d .rounds) (one-more tv false f)) .same ∙ rw (not-found g f) refl;
+      }
 
 -- an integer with its type
 pub integer-read :

@@ -28,8 +28,14 @@ in-row tk c t key p e z = below (row tk tk) .within c (λ q. eqb-false key 0 z (
 -- it is passed
 pub past-here :
     {tk tv ns ls : List ℕ} {c k : ℕ} → c < length tk → Sized tk tv ns ls c k → Sized tk tv ns ls (c + 1) k
-past-here b z =
-    record { types = z .types; tokens = z .tokens; at = omega arith; loads = z .loads; slots = z .slots; used = z .used }
+past-here b z = record {
+  types = z .types;
+  tokens = z .tokens;
+  at = omega arith;
+  loads = z .loads;
+  slots = z .slots;
+  used = z .used;
+}
 
 pub past-token :
     {tk tv ns ls : List ℕ} {c k : ℕ} (t key : ℕ) → t ≡ kindIn tk c → t ≡ key → Nonzero key →

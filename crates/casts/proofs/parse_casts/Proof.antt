@@ -1,12 +1,11 @@
 use Prim.Native.Nat.{_-_}
-use native.Mathlib.Omega.{arith}
 use mathlib.Core.Path.{_≡_, refl}
 use lib.ListN.{length}
 use Rattle.rules.specs.Columns.{columns}
 use Rattle.rules.specs.Types.{type}
 use Rattle.codes.specs.Answer.{Sized, row, nodes}
 use Rattle.tokens.proofs.Bounds.{past-optional}
-use Rattle.casts.proofs.Bounds.{after-as}
+use Rattle.casts.proofs.Bounds.{after-as, as-less}
 use Rattle.casts.proofs.Laws.{Casts, casts-first, casts-last, casts-stopped, casts-again}
 use borrow.Author.Needs.{needs}
 use Rattle.casts.proofs.parse_casts.Statement.{statement}
@@ -30,22 +29,16 @@ returns : tie.Need-returns Inv-loop μ-loop
 returns c = search (needs, casts-last)
 
 coerce-requires : tie.Need-coerce-requires Inv-loop μ-loop
-coerce-requires c κs = past-optional (c .before .before .before .before .before .consume-optional .ensures) refl (c .before .before .before .before .before .before .loop .inv .2)
-
-same-length-3 : tie.Need-same-length-3 Inv-loop μ-loop
-same-length-3 c = search needs
-
-same-length-4 : tie.Need-same-length-4 Inv-loop μ-loop
-same-length-4 c = search needs
+coerce-requires c κs = search (needs, past-optional)
 
 returns-2 : tie.Need-returns-2 Inv-loop μ-loop
 returns-2 c = search (needs, casts-stopped)
 
 loop-less : tie.Need-loop-less Inv-loop μ-loop
-loop-less c = let (z, b) = after-as _ _ (c .before .before .before .before .before .before .before .before .before .before .before .before .before .consume-optional .ensures) (c .before .before .before .before .before .before .before .before .before .before .if1 .left) (c .before .before .before .before .before .before .before .coerce .ensures) (c .before .cast .given .1) (c .before .before .before .before .before .before .before .before .before .before .before .before .before .before .loop .inv .2) in omega arith
+loop-less c = search (needs, as-less)
 
 loop-again : tie.Need-loop-again Inv-loop μ-loop
-loop-again c = let (z, b) = after-as _ _ (c .before .before .before .before .before .before .before .before .before .before .before .before .before .consume-optional .ensures) (c .before .before .before .before .before .before .before .before .before .before .if1 .left) (c .before .before .before .before .before .before .before .coerce .ensures) (c .before .cast .given .1) (c .before .before .before .before .before .before .before .before .before .before .before .before .before .before .loop .inv .2) in (search needs, search needs, z, casts-again _ _ _ _ _ _ _ _ (c .before .before .before .before .before .before .before .before .before .before .before .before .before .before .loop .inv .3) (c .before .before .before .before .before .before .before .before .before .before .before .before .before .consume-optional .ensures) (c .before .before .before .before .before .before .before .before .before .before .if1 .left) (c .before .before .before .before .before .before .before .coerce .ensures) (c .before .cast .given .1) b (z .at))
+loop-again c = (search needs, search needs, search (needs, after-as), search (needs, casts-again))
 
 pub parse-casts-spec : {M : Type 1} → statement M
 parse-casts-spec =
@@ -61,8 +54,8 @@ parse-casts-spec =
     coerce-requires
     (λ c. search needs)
     (λ c. search needs)
-    same-length-3
-    same-length-4
+    (λ c. search needs)
+    (λ c. search needs)
     returns-2
     loop-less
     loop-again)

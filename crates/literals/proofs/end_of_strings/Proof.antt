@@ -23,10 +23,14 @@ returns : tie.Need-returns Inv-loop μ-loop
 returns c = search (needs, strung-last)
 
 loop-less : tie.Need-loop-less Inv-loop μ-loop
-loop-less c = let (p, b) = optional-next (c .before .before .before .consume-optional .ensures) refl (negated _ (c .if1 .left)) in omega arith
+loop-less c =
+    let (p, b) = optional-next (c .before .before .before .consume-optional .ensures) refl (negated _ (c .if1 .left)) in
+    omega arith
 
 loop-again : tie.Need-loop-again Inv-loop μ-loop
-loop-again c = let (p, b) = optional-next (c .before .before .before .consume-optional .ensures) refl (negated _ (c .if1 .left)) in (omega arith, search (needs, strung-again))
+loop-again c =
+    let (p, b) = optional-next (c .before .before .before .consume-optional .ensures) refl (negated _ (c .if1 .left)) in
+    (omega arith, search (needs, strung-again))
 
 pub end-of-strings-spec : {M : Type 1} → statement M
 end-of-strings-spec =

@@ -1,4 +1,5 @@
-use Rattle.literals.proofs.Laws.{decimal, bits, char, boolean, literal-read, typed-read, joined-read, literal-refused}
+use Rattle.literals.proofs.Laws.{decimal, bits, char, boolean, literal-read, typed-read, joined-read}
+use Rattle.literals.proofs.Laws.{literal-refused}
 use borrow.Author.Needs.{needs}
 use Rattle.literals.proofs.parse_literal.Statement.{statement}
 use Rattle.literals.proofs.parse_literal.Tie as tie

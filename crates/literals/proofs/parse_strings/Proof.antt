@@ -11,7 +11,7 @@ returns : tie.Need-returns
 returns c = search (needs, one-string)
 
 end-of-strings-requires : tie.Need-end-of-strings-requires
-end-of-strings-requires c κs = 
+end-of-strings-requires c κs =
     let (p, b) = optional-next (c .before .before .before .consume-optional .ensures) refl (negated _ (c .if1 .left)) in
     omega arith
 
