@@ -26,19 +26,21 @@ pub in-row : (tk : List ℕ) (c t key : ℕ) → t ≡ kindIn tk c → t ≡ key
 in-row tk c t key p e z = below (row tk tk) .within c (λ q. eqb-false key 0 z (sym e ∙ p ∙ q))
 
 -- it is passed
+pub past-here :
+    {tk tv ns ls : List ℕ} {c k : ℕ} → c < length tk → Sized tk tv ns ls c k → Sized tk tv ns ls (c + 1) k
+past-here b z = record {
+  types = z .types;
+  tokens = z .tokens;
+  at = omega arith;
+  loads = z .loads;
+  slots = z .slots;
+  used = z .used;
+}
+
 pub past-token :
     {tk tv ns ls : List ℕ} {c k : ℕ} (t key : ℕ) → t ≡ kindIn tk c → t ≡ key → Nonzero key →
     Sized tk tv ns ls c k → Sized tk tv ns ls (c + 1) k
-past-token {tk} {c = c} t key p e n z =
-    let b : c < length tk = in-row tk c t key p e n in
-    record {
-      types = z .types;
-      tokens = z .tokens;
-      at = omega arith;
-      loads = z .loads;
-      slots = z .slots;
-      used = z .used;
-    }
+past-token {tk} {c = c} t key p e n z = past-here (in-row tk c t key p e n) z
 
 -- the cursor and the count after a token that was expected
 module _ {tk : List ℕ} {c k : ℕ} (key : ℕ) {o : Consumed} (g : Quiet consumed (consuming key) tk c k o)
@@ -72,16 +74,20 @@ module _ {tk : List ℕ} {c k : ℕ} (key : ℕ) {o : Consumed} (g : Quiet consu
   pub same-count : j ≡ k
   same-count = passed .1
 
--- a token that may stand here is passed
+-- a token that may stand here stands in the row
+pub optional-next :
+    {tk : List ℕ} {key c : ℕ} {o : Optional} → Optionally tk key c o → Nonzero key → o .found ≡ true →
+    (o .cursor .0 ≡ c + 1) × (c < length tk)
+optional-next {tk} {key} {c} g n e =
+    let (p, q) = found-next g e in (p, in-row tk c (kindIn tk c) key refl q n)
+
+-- it is passed
 optional-at : {tk : List ℕ} {key c : ℕ} {o : Optional} → Optionally tk key c o → Nonzero key → c ≤ length tk →
     o .cursor .0 ≤ length tk
 optional-at {tk} {key} {c} {o} g n b = go (o .found) refl
   where
     go : (f : Bool) → o .found ≡ f → o .cursor .0 ≤ length tk
-    go true e =
-        let (p, q) = found-next g e in
-        let h : c < length tk = in-row tk c (kindIn tk c) key refl q n in
-        omega arith
+    go true e = let (p, h) = optional-next g n e in omega arith
     go false e = let p = not-found g e in omega arith
 
 pub past-optional :

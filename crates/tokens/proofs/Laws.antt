@@ -1,6 +1,6 @@
 -- The steps over tokens: what they read, by the token's kind.
 use mathlib.Core.Path.{_≡_, refl, sym, _∙_, ap}
-use mathlib.Core.Bool.{true, false}
+use mathlib.Core.Bool.{Bool, true, false, not}
 use mathlib.Core.List.{List}
 use Prim.Native.Nat.{ℕ, _+_}
 use native.Mathlib.Omega.{arith}
@@ -71,3 +71,8 @@ module _ {tk : List ℕ} {key c : ℕ} {o : Optional} (g : Optionally tk key c o
   pub found-next : o .found ≡ true → (o .cursor .0 ≡ c + 1) × (kindIn tk c ≡ key)
   unfolding optional
   found-next e = let d = sym is-found ∙ e in (g .cursor ∙ rw d refl, eqb-true _ _ d)
+
+-- what the test of a negation tells
+pub negated : (b : Bool) {v : Bool} → not b ≡ v → b ≡ not v
+negated true e = ap not e
+negated false e = ap not e

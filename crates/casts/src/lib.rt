@@ -1,0 +1,277 @@
+// What holds a type and no expression, after parse_singular_expression and parse_unary_expression of the Rust's
+// parser.rs: `cast`, `as` and `|:`.
+ghost use Prim.Native.Nat.{_+_, _≤_, _<_};
+ghost use lib.ListN.{length};
+ghost use Rattle.rules.specs.Codes.Limit as Most;
+ghost use Rattle.rules.specs.Reading.{loop};
+ghost use Rattle.rules.specs.Columns.{columns};
+ghost use Rattle.rules.specs.Types.{type};
+ghost use Rattle.rules.specs.Expressions.{sizeOf, typeCast, coerced, singularEnd};
+ghost use Rattle.codes.specs.Answer.{Gives, Sized, row, nodes};
+ghost use Rattle.nodes.specs.Answer.{Slots};
+ghost use Rattle.casts.specs.Answer.{Casting, bitCast};
+use codes::BaseToken;
+use codes::NodeId;
+use codes::ParseNode;
+use codes::Parsed;
+use codes::Refusal;
+use codes::TokenId;
+use nodes::push;
+use nodes::push_two;
+use references::push_closed;
+use tokens::Optional;
+use tokens::consume_optional;
+use tokens::peek;
+use types::parse_type;
+
+// A `cast` before a unary. One that is `bare`, an operand of a bitwise operator or of a shift, has none.
+pub fn optional_cast(kinds: &[u8], cursor: TokenId, bare: bool) -> Optional
+    requires { ⌜ cursor .0 ≤ Most.Tokens + 1 ⌝ }
+    ensures { λ r. ⌜ Casting (now (kinds .entry)) bare (cursor .0) r ⌝ }
+{
+    if bare {
+        Optional {
+            found: false,
+            cursor,
+        }
+    } else {
+        consume_optional(kinds, cursor, BaseToken::Cast)
+    }
+}
+
+// A type. One of a single token is read here: the reader that calls itself costs more to call than this takes.
+fn parse_coerced_type(
+    kinds: &[u8],
+    types: &[u8],
+    node_kinds: &mut [u8],
+    node_loads: &mut [u32],
+    cursor: TokenId,
+    count: u32,
+    unused: u32,
+) -> Parsed
+    requires { ⌜ Sized (now kinds) (now types) (now «node_kinds») (now «node_loads») (cursor .0) count ⌝ }
+    ensures { λ r. ⌜ Gives (type columns (row (now (kinds .entry)) (now (types .entry))) unused) (cursor .0) (nodes (now («node_kinds» .entry)) (now («node_loads» .entry)) count) r (now («node_kinds» .exit)) (now («node_loads» .exit)) ⌝ }
+{
+    if unused == 0 {
+        return Parsed::Refused {
+            number: Refusal::NestingExceeded,
+            start: cursor,
+            end: cursor,
+            cursor,
+            count,
+        };
+    }
+    let at = cursor.0;
+    let next = TokenId(at + 1);
+    match peek(kinds, cursor) {
+        BaseToken::ValueTypeKeyword => {
+            let load = peek(types, cursor) as u32;
+            push(
+                node_kinds,
+                node_loads,
+                next,
+                count,
+                ParseNode::SimpleValueType,
+                load,
+            )
+        }
+        BaseToken::Identifier => {
+            let kind = ParseNode::UnresolvedStructOrWordVT;
+            push(node_kinds, node_loads, next, count, kind, at)
+        }
+        _ => parse_type(kinds, types, node_kinds, node_loads, cursor, count, unused),
+    }
+}
+
+// The type after an `as`, and the node of the cast of what stands before it.
+fn coerce(
+    kinds: &[u8],
+    types: &[u8],
+    node_kinds: &mut [u8],
+    node_loads: &mut [u32],
+    cursor: TokenId,
+    count: u32,
+    unused: u32,
+    expression: NodeId,
+) -> Parsed
+    requires { ⌜ Sized (now kinds) (now types) (now «node_kinds») (now «node_loads») (cursor .0) count ⌝ }
+    ensures { λ r. ⌜ Gives (typeCast columns (row (now (kinds .entry)) (now (types .entry))) (type columns (row (now (kinds .entry)) (now (types .entry))) unused) (expression .0)) (cursor .0) (nodes (now («node_kinds» .entry)) (now («node_loads» .entry)) count) r (now («node_kinds» .exit)) (now («node_loads» .exit)) ⌝ }
+{
+    let coerced = parse_coerced_type(kinds, types, node_kinds, node_loads, cursor, count, unused);
+    let Parsed::Node {
+        root: _,
+        cursor: after,
+        count: used,
+    } = coerced
+    else {
+        return coerced;
+    };
+    push_two(
+        node_kinds,
+        node_loads,
+        after,
+        used,
+        ParseNode::Item,
+        expression.0,
+        ParseNode::TypeCast,
+        cursor.0,
+    )
+}
+
+// Any number of `as`, each with a type.
+fn parse_casts(
+    kinds: &[u8],
+    types: &[u8],
+    node_kinds: &mut [u8],
+    node_loads: &mut [u32],
+    cursor: TokenId,
+    count: u32,
+    unused: u32,
+    expression: NodeId,
+) -> Parsed
+    requires { ⌜ Sized (now kinds) (now types) (now «node_kinds») (now «node_loads») (cursor .0) count ⌝ }
+    ensures { λ r. ⌜ Gives (loop (row (now (kinds .entry)) (now (types .entry))) (coerced columns (row (now (kinds .entry)) (now (types .entry))) (type columns (row (now (kinds .entry)) (now (types .entry))) unused)) (expression .0)) (cursor .0) (nodes (now («node_kinds» .entry)) (now («node_loads» .entry)) count) r (now («node_kinds» .exit)) (now («node_loads» .exit)) ⌝ }
+{
+    let mut root = expression.0;
+    let mut at = cursor.0;
+    let mut used = count;
+    loop {
+        let found = consume_optional(kinds, TokenId(at), BaseToken::As);
+        let start = found.cursor;
+        if !found.found {
+            return Parsed::Node {
+                root: NodeId(root),
+                cursor: start,
+                count: used,
+            };
+        }
+        let cast = coerce(
+            kinds,
+            types,
+            node_kinds,
+            node_loads,
+            start,
+            used,
+            unused,
+            NodeId(root),
+        );
+        let Parsed::Node {
+            root: node,
+            cursor: after,
+            count: more,
+        } = cast
+        else {
+            return cast;
+        };
+        root = node.0;
+        at = after.0;
+        used = more;
+    }
+}
+
+// The node of a `cast`, if one stands at `at`.
+fn push_bit_cast(
+    node_kinds: &mut [u8],
+    node_loads: &mut [u32],
+    cursor: TokenId,
+    count: u32,
+    root: NodeId,
+    cast: bool,
+    at: TokenId,
+) -> Parsed
+    requires { ⌜ Slots (now «node_kinds») (now «node_loads») count ⌝ }
+    ensures { λ r. ⌜ Gives (bitCast cast (at .0) (root .0)) (cursor .0) (nodes (now («node_kinds» .entry)) (now («node_loads» .entry)) count) r (now («node_kinds» .exit)) (now («node_loads» .exit)) ⌝ }
+{
+    if cast {
+        push(
+            node_kinds,
+            node_loads,
+            cursor,
+            count,
+            ParseNode::BitCast,
+            at.0,
+        )
+    } else {
+        Parsed::Node {
+            root,
+            cursor,
+            count,
+        }
+    }
+}
+
+// After the unary of a singular: the node of its `cast`, whose token is at `at`, and each `as`.
+pub fn finish_singular(
+    kinds: &[u8],
+    types: &[u8],
+    node_kinds: &mut [u8],
+    node_loads: &mut [u32],
+    cursor: TokenId,
+    count: u32,
+    unused: u32,
+    expression: NodeId,
+    cast: bool,
+    at: TokenId,
+) -> Parsed
+    requires { ⌜ Sized (now kinds) (now types) (now «node_kinds») (now «node_loads») (cursor .0) count ⌝ }
+    ensures { λ r. ⌜ Gives (singularEnd columns (row (now (kinds .entry)) (now (types .entry))) (type columns (row (now (kinds .entry)) (now (types .entry))) unused) cast (at .0) (expression .0)) (cursor .0) (nodes (now («node_kinds» .entry)) (now («node_loads» .entry)) count) r (now («node_kinds» .exit)) (now («node_loads» .exit)) ⌝ }
+{
+    let node = push_bit_cast(node_kinds, node_loads, cursor, count, expression, cast, at);
+    let Parsed::Node {
+        root,
+        cursor: after,
+        count: used,
+    } = node
+    else {
+        return node;
+    };
+    if peek(kinds, after) != BaseToken::As {
+        return node;
+    }
+    parse_casts(
+        kinds,
+        types,
+        node_kinds,
+        node_loads,
+        after,
+        used,
+        unused,
+        root,
+    )
+}
+
+// `|:`, which stands here, a type and `|`.
+pub fn parse_size_of(
+    kinds: &[u8],
+    types: &[u8],
+    node_kinds: &mut [u8],
+    node_loads: &mut [u32],
+    cursor: TokenId,
+    count: u32,
+    unused: u32,
+) -> Parsed
+    requires { ⌜ Sized (now kinds) (now types) (now «node_kinds») (now «node_loads») (cursor .0) count × (cursor .0 < length (now kinds)) ⌝ }
+    ensures { λ r. ⌜ Gives (sizeOf columns (row (now (kinds .entry)) (now (types .entry))) (type columns (row (now (kinds .entry)) (now (types .entry))) unused)) (cursor .0) (nodes (now («node_kinds» .entry)) (now («node_loads» .entry)) count) r (now («node_kinds» .exit)) (now («node_loads» .exit)) ⌝ }
+{
+    let at = cursor.0;
+    let start = TokenId(at + 1);
+    let queried = parse_type(kinds, types, node_kinds, node_loads, start, count, unused);
+    let Parsed::Node {
+        root,
+        cursor: after,
+        count: used,
+    } = queried
+    else {
+        return queried;
+    };
+    push_closed(
+        kinds,
+        node_kinds,
+        node_loads,
+        after,
+        used,
+        BaseToken::Pipe,
+        ParseNode::SizeOf,
+        root,
+    )
+}

@@ -1,0 +1,40 @@
+-- The answers of the code as the rules give them.
+use Prim.Native.Nat.{ℕ}
+use mathlib.Core.List.{List}
+use mathlib.Core.Path.{_≡_}
+use Rattle.codes.specs.declared.Parsed.{Parsed}
+use Rattle.codes.specs.declared.TokenId.{TokenId}
+use Rattle.codes.specs.Answer.{Gives, row}
+use Rattle.tokens.specs.Answer.{kindIn}
+use Rattle.rules.specs.Codes.BaseToken as BaseToken
+use Rattle.rules.specs.Reading.{Rule, Row, ok, loop}
+use Rattle.rules.specs.Columns.{Nodes, columns}
+use Rattle.rules.specs.Expressions.{string, strings, typedInteger, primary}
+
+-- the strings after the first one, whose token is at, of any row
+unfoldable pub joining : ℕ → Row → Rule Nodes ℕ
+joining at row = strings columns row at
+
+-- an integer with its type, whose token is at, of any row
+unfoldable pub suffixed : ℕ → Row → Rule Nodes ℕ
+suffixed at row = typedInteger columns row at
+
+-- The place after further strings: the rule reads it and ends there, whatever the value types and the nodes are.
+pub record Ending (kinds : List ℕ) (c : ℕ) (r : TokenId) : Type 0 where
+  pub run :
+      (types : List ℕ) (s : Nodes) →
+      loop (row kinds types) (string columns (row kinds types)) tt c s ≡
+      record { result = ok (r .0); cursor = r .0; state = s }
+
+-- The answer and the columns of a reader that reads no kind: whatever these are.
+pub record Unkinded (m : Row → Rule Nodes ℕ) (types : List ℕ) (c : ℕ) (s : Nodes) (r : Parsed) (ks ls : List ℕ) :
+    Type 0 where
+  pub run : (kinds : List ℕ) → Gives (m (row kinds types)) c s r ks ls
+
+-- The answer and the columns are those of a primary, whatever the rule for an expression in it is, if the token at the
+-- cursor, of the kind t, begins no primary that holds an expression or a name.
+pub record Literal (kinds types : List ℕ) (t c : ℕ) (s : Nodes) (r : Parsed) (ks ls : List ℕ) : Type 0 where
+  pub run :
+      t ≡ kindIn kinds c → (t ≡ BaseToken.Ampersand → ⊥) → (t ≡ BaseToken.Identifier → ⊥) →
+      (t ≡ BaseToken.Builtin → ⊥) → (t ≡ BaseToken.BracketLeft → ⊥) → (t ≡ BaseToken.ParenLeft → ⊥) →
+      (expr : Rule Nodes ℕ) → Gives (primary columns (row kinds types) expr) c s r ks ls

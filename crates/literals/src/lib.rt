@@ -1,0 +1,142 @@
+// Literals, after parse_primary_expression of the Rust's parser.rs.
+ghost use Prim.Native.Nat.{_+_, _≤_};
+ghost use lib.ListN.{length};
+ghost use Rattle.rules.specs.Codes.Limit as Most;
+ghost use Rattle.codes.specs.Answer.{Untyped, Sized, parsed, nodes};
+ghost use Rattle.nodes.specs.Answer.{Slots};
+ghost use Rattle.literals.specs.Answer.{Ending, Unkinded, Literal, joining, suffixed};
+use codes::BaseToken;
+use codes::ParseNode;
+use codes::Parsed;
+use codes::Refusal;
+use codes::TokenId;
+use nodes::push;
+use nodes::push_two;
+use tokens::consume_optional;
+use tokens::peek;
+
+// The place after further strings.
+fn end_of_strings(kinds: &[u8], cursor: TokenId) -> TokenId
+    requires { ⌜ (cursor .0 ≤ Most.Tokens + 1) × (length (now kinds) ≤ Most.Tokens) ⌝ }
+    ensures { λ r. ⌜ Ending (now (kinds .entry)) (cursor .0) r ⌝ }
+{
+    let mut at = cursor.0;
+    loop {
+        let string = consume_optional(kinds, TokenId(at), BaseToken::StringLiteral);
+        let after = string.cursor;
+        if !string.found {
+            return after;
+        }
+        at = after.0;
+    }
+}
+
+// A string, which is taken and starts at `start`, and those next to it.
+fn parse_strings(
+    kinds: &[u8],
+    node_kinds: &mut [u8],
+    node_loads: &mut [u32],
+    cursor: TokenId,
+    count: u32,
+    start: TokenId,
+) -> Parsed
+    requires { ⌜ (cursor .0 ≤ Most.Tokens + 1) × (length (now kinds) ≤ Most.Tokens) × Slots (now «node_kinds») (now «node_loads») count ⌝ }
+    ensures { λ r. ⌜ Untyped parsed (joining (start .0)) (now (kinds .entry)) (cursor .0) (nodes (now («node_kinds» .entry)) (now («node_loads» .entry)) count) r (now («node_kinds» .exit)) (now («node_loads» .exit)) ⌝ }
+{
+    let second = consume_optional(kinds, cursor, BaseToken::StringLiteral);
+    let after = second.cursor;
+    if !second.found {
+        return push(
+            node_kinds,
+            node_loads,
+            after,
+            count,
+            ParseNode::SimpleStringLiteral,
+            start.0,
+        );
+    }
+    let end = end_of_strings(kinds, after);
+    push_two(
+        node_kinds,
+        node_loads,
+        end,
+        count,
+        ParseNode::EndOfSpan,
+        end.0,
+        ParseNode::CompositeStringLiteral,
+        start.0,
+    )
+}
+
+// An integer with its type, at `at`.
+fn push_typed_integer(
+    types: &[u8],
+    node_kinds: &mut [u8],
+    node_loads: &mut [u32],
+    cursor: TokenId,
+    count: u32,
+    at: TokenId,
+) -> Parsed
+    requires { ⌜ Slots (now «node_kinds») (now «node_loads») count ⌝ }
+    ensures { λ r. ⌜ Unkinded (suffixed (at .0)) (now (types .entry)) (cursor .0) (nodes (now («node_kinds» .entry)) (now («node_loads» .entry)) count) r (now («node_kinds» .exit)) (now («node_loads» .exit)) ⌝ }
+{
+    let value_type = peek(types, at);
+    push_two(
+        node_kinds,
+        node_loads,
+        cursor,
+        count,
+        ParseNode::SimpleValueType,
+        value_type as u32,
+        ParseNode::TypedIntegerLiteral,
+        at.0,
+    )
+}
+
+// A literal whose first token, of the kind `token`, stands here. Any other is refused.
+pub fn parse_literal(
+    kinds: &[u8],
+    types: &[u8],
+    node_kinds: &mut [u8],
+    node_loads: &mut [u32],
+    cursor: TokenId,
+    count: u32,
+    token: u8,
+) -> Parsed
+    requires { ⌜ Sized (now kinds) (now types) (now «node_kinds») (now «node_loads») (cursor .0) count ⌝ }
+    ensures { λ r. ⌜ Literal (now (kinds .entry)) (now (types .entry)) token (cursor .0) (nodes (now («node_kinds» .entry)) (now («node_loads» .entry)) count) r (now («node_kinds» .exit)) (now («node_loads» .exit)) ⌝ }
+{
+    let at = cursor.0;
+    let next = TokenId(at + 1);
+    match token {
+        BaseToken::NakedDecimal => {
+            let kind = ParseNode::UntypedIntegerLiteral;
+            push(node_kinds, node_loads, next, count, kind, at)
+        }
+        BaseToken::BitInteger => {
+            let kind = ParseNode::UntypedIntegerLiteral;
+            push(node_kinds, node_loads, next, count, kind, at)
+        }
+        BaseToken::SuffixedInteger => {
+            push_typed_integer(types, node_kinds, node_loads, next, count, cursor)
+        }
+        BaseToken::CharLiteral => {
+            let kind = ParseNode::CharLiteral;
+            push(node_kinds, node_loads, next, count, kind, at)
+        }
+        BaseToken::BoolLiteral => {
+            let kind = ParseNode::BooleanLiteral;
+            push(node_kinds, node_loads, next, count, kind, at)
+        }
+        BaseToken::StringLiteral => {
+            parse_strings(kinds, node_kinds, node_loads, next, count, cursor)
+        }
+        _ => Parsed::Refused {
+            number: Refusal::ExpectedPrimary,
+            start: cursor,
+            end: cursor,
+            cursor: next,
+            count,
+        },
+    }
+}
