@@ -39,7 +39,7 @@ module _ (tk : List ℕ) (bare : Bool) (c : ℕ) where
       bare ≡ false → {o : Optional} → Optionally tk BaseToken.Cast c o → Casting tk bare c o
   cast-optional e g = record { alone = λ q. absurd (true≢false (sym q ∙ e)); whole = λ _. g }
 
--- a type of one token, whose node is appended, or of none
+-- a type where no nesting is left, or of one token, by its node
 module _ (tk tv : List ℕ) (u c : ℕ) where
   pub cast-too-deep :
       (k : ℕ) (ks ls : List ℕ) → u ≡ 0 →
