@@ -9,5 +9,10 @@ returns c = search (needs, integer-read)
 pub push-typed-integer-spec : {M : Type 1} → statement M
 push-typed-integer-spec =
     tie.close
-    (tie.spec (λ c κs. search needs) (λ c. search needs) (λ c κs. search needs) (λ c. search needs)
-    (λ c. search needs) returns)
+    (tie.spec
+    (λ c κs. search needs)
+    (λ c. search needs)
+    (λ c κs. search needs)
+    (λ c. search needs)
+    (λ c. search needs)
+    returns)
