@@ -1,6 +1,6 @@
 -- How the answers over lists follow from those of the readers that they call, a law for each return.
 use mathlib.Core.Path.{_≡_, refl, sym, _∙_, ap}
-use mathlib.Core.Bool.{Bool, true, false}
+use mathlib.Core.Bool.{true, false}
 use mathlib.Core.List.{List}
 use mathlib.Core.Option.{Option}
 use Prim.Native.Nat.{ℕ, _+_}
@@ -10,7 +10,7 @@ use Rattle.codes.specs.declared.Parsed.the-variants.{Node, Refused}
 use Rattle.codes.specs.declared.NodeId.{NodeId}
 use Rattle.codes.specs.declared.TokenId.{TokenId}
 use Rattle.codes.specs.Answer.{As, Gives, Untyped, Quiet, nodes, token, row}
-use Rattle.codes.proofs.Onto.{Onto, _then_, stays, reads, answers, shows, picked}
+use Rattle.codes.proofs.Onto.{_then_, stays, reads, answers, shows, picked}
 use Rattle.codes.proofs.Onto.{told, held, hands-on, came-read, plain-parsed, Holding}
 use Rattle.tokens.specs.declared.Consumed.{Consumed}
 use Rattle.tokens.specs.declared.Consumed.the-variants.{Next, Wrong}
@@ -29,7 +29,7 @@ use Rattle.lists.specs.declared.Turn.the-variants.{More, Last, Refused a
 use Rattle.lists.specs.Answer.{ownerOf, Counted, turnOf, turned, separating, ending, fieldEnd, shorthandEnd}
 use Rattle.rules.specs.Codes.BaseToken as BaseToken
 use Rattle.rules.specs.Codes.ParseNode as ParseNode
-use Rattle.rules.specs.Reading.{Step, again, done, pure, _>>=_}
+use Rattle.rules.specs.Reading.{Step, again, done}
 use Rattle.rules.specs.Columns.{Nodes, Ends, columns, append, pushListItem, pushEndOfList}
 use Rattle.rules.specs.Expressions.{Owner, separator, itemEnd, nameAlone, owned, listEnd}
 

@@ -1,19 +1,18 @@
 -- How the answers over references follow from those of the readers that they call, a law for each return.
 use mathlib.Core.Path.{_≡_, refl, sym, _∙_, ap}
-use mathlib.Core.Bool.{Bool, true, false}
+use mathlib.Core.Bool.{true, false}
 use mathlib.Core.List.{List}
 use mathlib.Core.Option.{Option, none}
 use Prim.Native.Nat.{ℕ, _+_, _≤_, _<_}
 use native.Mathlib.Omega.{arith}
 use lib.ListN.{length}
-use lib.Dec.{ltb}
 use borrow.Author.Tests.{lt-ltb, le-ltb}
 use Rattle.codes.specs.declared.Parsed.{Parsed}
 use Rattle.codes.specs.declared.Parsed.the-variants.{Node, Refused}
 use Rattle.codes.specs.declared.NodeId.{NodeId}
 use Rattle.codes.specs.declared.TokenId.{TokenId}
 use Rattle.codes.specs.Answer.{As, Gives, Untyped, Quiet, parsed, nodes, token, row, refusal}
-use Rattle.codes.proofs.Onto.{Onto, _then_, stays, reads, regroup, at-here, answers, declines, shows, picked}
+use Rattle.codes.proofs.Onto.{Onto, _then_, stays, reads, regroup, at-here, answers, shows, picked}
 use Rattle.codes.proofs.Onto.{Refusing, told, held, hands-on, came-read, plain-parsed, Holding}
 use Rattle.codes.proofs.Loops.{Going, sets-out, goes-round, round, round-again, round-last}
 use Rattle.tokens.specs.declared.Consumed.{Consumed}
@@ -31,14 +30,14 @@ use Rattle.references.specs.declared.Ampersands.{Ampersands}
 use Rattle.references.specs.declared.Ampersands.the-variants.{Depth, Refused as NoDepth}
 use Rattle.references.specs.declared.Address.the-variants.{Name, Refused as NoName}
 use Rattle.references.specs.declared.Stepped.{Stepped}
-use Rattle.references.specs.declared.Stepped.the-variants.{More, Last, Refused as NoStep}
+use Rattle.references.specs.declared.Stepped.the-variants.{More, Refused as NoStep}
 use Rattle.references.specs.Answer.{depths, addressed, stepped, stepOf, Unread}
 use Rattle.references.specs.Answer.{closing, counting, addressing, stepping, elementing, membering, derefEnd}
 use Rattle.rules.specs.Codes.BaseToken as BaseToken
 use Rattle.rules.specs.Codes.ParseNode as ParseNode
 use Rattle.rules.specs.Codes.Refusal as Refusal
 use Rattle.rules.specs.Codes.Limit as Limit
-use Rattle.rules.specs.Reading.{Rule, Step, again, done, repeat, loop, pure, refuse, _>>=_}
+use Rattle.rules.specs.Reading.{Step, again, done, repeat, loop, refuse, _>>=_}
 use Rattle.rules.specs.Columns.{Nodes, Ends, columns, append, pushListItem, pushEndOfList}
 use Rattle.rules.specs.Expressions.{closed, exceeded, ampersand, ampersands, address, deref, nameAlone}
 use Rattle.rules.specs.Expressions.{stepEnd, elementEnd, member}
