@@ -74,6 +74,31 @@ module _ {A B C : Type 0} (m : Rule Nodes A) (f : A → Rule Nodes B) (g : B →
       go (ok a) c s = refl
       go (no n x y) c s = refl
 
+-- the two steps of a rule that read b
+pub record Split {A B : Type 0} (m : Rule Nodes A) (f : A → Rule Nodes B) (c : ℕ) (s : Nodes) (b : B) (c' : ℕ)
+    (s' : Nodes) : Type 0 where
+  pub value : A
+  pub cursor : ℕ
+  pub state : Nodes
+  pub one : Onto m c s (pure value) cursor state
+  pub two : Onto (f value) cursor state (pure b) c' s'
+
+pub split :
+    {A B : Type 0} {m : Rule Nodes A} {f : A → Rule Nodes B} {c : ℕ} {s : Nodes} {b : B} {c' : ℕ} {s' : Nodes} →
+    Onto (m >>= f) c s (pure b) c' s' → Split m f c s b c' s'
+unfolding _>>=_
+split {A} {B} {m} {f} {c} {s} {b} {c'} {s'} e = go (m c s .result) (m c s .cursor) (m c s .state) refl (e .same)
+  where
+    go :
+        (q : Result A) (p : ℕ) (t : Nodes) → m c s ≡ record { result = q; cursor = p; state = t } →
+        next q p t f ≡ pure b c' s' → Split m f c s b c' s'
+    go (ok a) p t q e =
+        record { value = a; cursor = p; state = t; one = record { same = q }; two = record { same = e } }
+    go (no n x y) p t q e =
+        let w : no n x y ≡ ok b = ap (λ (o : Outcome Nodes B). o .result) e in
+        let z : _≡_ {A = ℕ} 0 1 = cc in
+        absurd (omega arith)
+
 -- what the last arm of a match on k knows, after what is known before
 abbrev pub Rest : ℕ → Type 0 → List ℕ → Type 0
 Rest k known [] = known

@@ -1,22 +1,26 @@
 -- What the columns' functions take for granted holds where they are called, and after them.
-use mathlib.Core.Path.{_≡_, sym, _∙_, ap}
+use mathlib.Core.Path.{_≡_, refl, sym, _∙_, ap}
 use mathlib.Core.List.{List}
-use mathlib.Core.Option.{Option}
-use Prim.Native.Nat.{ℕ, _≤_}
+use mathlib.Core.Bool.{Bool, true, false}
+use mathlib.Core.Option.{Option, some, none}
+use Prim.Native.Nat.{ℕ, _+_, _≤_}
+use lib.ListN.{length}
+use lib.Dec.{ltb}
 use native.Mathlib.Omega.{arith}
 use Rattle.codes.specs.declared.Parsed.{Parsed}
 use Rattle.codes.specs.declared.Parsed.the-variants.{Node}
 use Rattle.codes.specs.declared.NodeId.{NodeId}
 use Rattle.codes.specs.declared.TokenId.{TokenId}
 use Rattle.codes.specs.Answer.{Form, As, Gives, Sized, nodes}
-use Rattle.codes.proofs.Onto.{Plain, came-read, moved, plain-parsed}
+use Rattle.codes.proofs.Onto.{Onto, Plain, came-read, moved, plain-parsed}
 use Rattle.nodes.specs.declared.ActiveList.{ActiveList}
 use Rattle.nodes.specs.declared.Listed.{Listed}
 use Rattle.nodes.specs.declared.Listed.the-variants.{List as Items}
-use Rattle.nodes.specs.Answer.{Slots, ends, listed, appendTwo}
+use Rattle.nodes.specs.Answer.{Slots, ends, active, past, listed, appendTwo}
 use Rattle.nodes.proofs.Laws.{active-ends, holding-listed}
-use Rattle.rules.specs.Reading.{Rule}
-use Rattle.rules.specs.Columns.{Nodes, Ends, append, pushListItem, pushEndOfList}
+use Rattle.rules.specs.Codes.Refusal as Refusal
+use Rattle.rules.specs.Reading.{Rule, Outcome, ok, no, pure, _>>=_}
+use Rattle.rules.specs.Columns.{Nodes, Ends, append, patch, extended, pushListItem, pushEndOfList}
 use Rattle.rules.proofs.Forward.{Goes, _then_, eased, appends, items, closes}
 
 pub slots : {tk tv ns ls : List ℕ} {c k : ℕ} → Sized tk tv ns ls c k → Slots ns ls k
@@ -75,3 +79,33 @@ pub after-item :
 after-item l {c = c} g {m} {p} {j} q z =
     slots-after (holding-listed .plain) (items {n = c} l) (omega arith) g {a = ends m}
     (q ∙ ap (λ (x : ActiveList). Items x p j) (sym (active-ends m))) z
+
+-- an item is one node more, and the place after its list is at most the count
+pub item-fits :
+    (l : Option Ends) {c : ℕ} {s : Nodes} {m : Option Ends} {c' : ℕ} {s' : Nodes} →
+    Onto (pushListItem l) c s (pure m) c' s' → (past (active m) ≤ s' .count) × (s' .count ≡ s .count + 1)
+unfolding pushListItem append extended patch past _>>=_
+item-fits l {c} {s} {m} {c'} {s'} e = go l (ltb (s .count) (length (s .kinds))) refl (e .same)
+  where
+    go :
+        (l : Option Ends) (b : Bool) → ltb (s .count) (length (s .kinds)) ≡ b → pushListItem l c s ≡ pure m c' s' →
+        (past (active m) ≤ s' .count) × (s' .count ≡ s .count + 1)
+    go none true d e =
+        let e' = rw d at e in
+        let x : ok (some (record { first = s .count; last = s .count })) ≡ ok m =
+        ap (λ (o : Outcome Nodes (Option Ends)). o .result) e' in
+        let y : s .count + 1 ≡ s' .count = ap (λ (o : Outcome Nodes (Option Ends)). o .state .count) e' in
+        let z : some (record { first = s .count; last = s .count }) ≡ m = cc in
+        (rw (← z) (omega arith), omega arith)
+    go (some f) true d e =
+        let e' = rw d at e in
+        let x : ok (some (record { first = f .first; last = s .count })) ≡ ok m =
+        ap (λ (o : Outcome Nodes (Option Ends)). o .result) e' in
+        let y : s .count + 1 ≡ s' .count = ap (λ (o : Outcome Nodes (Option Ends)). o .state .count) e' in
+        let z : some (record { first = f .first; last = s .count }) ≡ m = cc in
+        (rw (← z) (omega arith), omega arith)
+    go l false d e =
+        let e' = rw d at e in
+        let x : no Refusal.NoSlot c c ≡ ok m = ap (λ (o : Outcome Nodes (Option Ends)). o .result) e' in
+        let z : _≡_ {A = ℕ} 0 1 = cc in
+        absurd (omega arith)
