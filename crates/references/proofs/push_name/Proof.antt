@@ -1,4 +1,3 @@
-use native.Mathlib.Omega.{arith}
 use Rattle.nodes.proofs.Laws.{past-none}
 use Rattle.references.proofs.Laws.{name-read}
 use borrow.Author.Needs.{needs}
