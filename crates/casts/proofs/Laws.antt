@@ -66,13 +66,15 @@ module _ (tk tv : List ℕ) (u c : ℕ) where
           t ≡ BaseToken.ValueTypeKeyword → {v : ℕ} → v ≡ kindIn tv c →
           Gives (append ParseNode.SimpleValueType v) (c + 1) s r ks ls → Gives (type columns (row tk tv) u) c s r ks ls
       keyword-type e q g =
-          one-token _ _ g (leaf-read tk tv u c (s .count) left (begins tk tv c t (s .count) peeked (keyword q) e) refl g)
+          let b = begins tk tv c t (s .count) peeked (keyword q) e in
+          one-token _ _ g (leaf-read tk tv u c (s .count) left b refl g)
 
       pub name-type :
           t ≡ BaseToken.Identifier → Gives (append ParseNode.UnresolvedStructOrWordVT c) (c + 1) s r ks ls →
           Gives (type columns (row tk tv) u) c s r ks ls
       name-type e g =
-          one-token _ _ g (leaf-read tk tv u c (s .count) left (begins tk tv c t (s .count) peeked name e) refl g)
+          let b = begins tk tv c t (s .count) peeked name e in
+          one-token _ _ g (leaf-read tk tv u c (s .count) left b refl g)
 
 -- the type after an `as`, and the cast to it
 module _

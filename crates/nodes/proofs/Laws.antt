@@ -11,7 +11,8 @@ use Rattle.codes.specs.declared.Parsed.the-variants.{Node, Refused}
 use Rattle.codes.specs.declared.NodeId.{NodeId}
 use Rattle.codes.specs.declared.TokenId.{TokenId}
 use Rattle.codes.specs.Answer.{As, Gives, nodes, token, nodeId, refusal}
-use Rattle.codes.proofs.Onto.{Onto, stays, reads, answers, declines, shows, told, hands-on, came-read, plain-parsed, Holding}
+use Rattle.codes.proofs.Onto.{Onto, stays, reads, answers, declines, shows, told, hands-on, came-read}
+use Rattle.codes.proofs.Onto.{plain-parsed, Holding}
 use Rattle.nodes.specs.declared.ActiveList.{ActiveList}
 use Rattle.nodes.specs.declared.ActiveList.the-variants.{Empty, Open}
 use Rattle.nodes.specs.declared.Listed.{Listed}
@@ -111,7 +112,8 @@ module _ (l : ActiveList) {c k : ℕ} {ks ls : List ℕ} {r₁ : Parsed} {ks₁ 
         Patched ks₁ ls₁ (e .0) (n .0) ks' ls' →
         As listed (pushListItem (ends l)) c (nodes ks ls k) (Items (Open f n) p j) ks' ls'
     unfolding pushListItem extended patch _>>=_
-    item-more q e w = rw e (shows (reads _ (came-read plain-parsed g q)) (record { reply = refl; kinds = w .0; loads = w .1 }))
+    item-more q e w =
+        rw e (shows (reads _ (came-read plain-parsed g q)) (record { reply = refl; kinds = w .0; loads = w .1 }))
 
   module _ (g : Gives (append ParseNode.NoMoreItems 0) c (nodes ks ls k) r₁ ks₁ ls₁) where
     pub end-refused :
@@ -131,4 +133,5 @@ module _ (l : ActiveList) {c k : ℕ} {ks ls : List ℕ} {r₁ : Parsed} {ks₁ 
         Patched ks₁ ls₁ (e .0) (n .0) ks' ls' →
         Gives (pushEndOfList (ends l)) c (nodes ks ls k) (Node f p j) ks' ls'
     unfolding pushEndOfList ended patch _>>=_
-    end-patched q e w = rw e (shows (reads _ (came-read plain-parsed g q)) (record { reply = refl; kinds = w .0; loads = w .1 }))
+    end-patched q e w =
+        rw e (shows (reads _ (came-read plain-parsed g q)) (record { reply = refl; kinds = w .0; loads = w .1 }))

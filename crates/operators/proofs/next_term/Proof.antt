@@ -1,5 +1,6 @@
 -- `operators::next_term` meets its contract: a law for each return, found among the facts of its path.
-use Rattle.operators.proofs.Laws.{term-next, term-none, ampersand, pipe, caret, left-shift, right-shift, plus, minus}
+use Rattle.operators.proofs.Laws.{term-next, term-none, ampersand, pipe, caret, left-shift, right-shift}
+use Rattle.operators.proofs.Laws.{plus, minus}
 use borrow.Author.Needs.{needs}
 use Rattle.operators.proofs.next_term.Statement.{statement}
 use Rattle.operators.proofs.next_term.Tie as tie

@@ -15,7 +15,12 @@ returns-2 : tie.Need-returns-2
 returns-2 c = search (needs, operator-stopped)
 
 push-requires-2 : tie.Need-push-requires-2
-push-requires-2 c κs = push-slots _ _ (c .before .before .before .before .before .before .before .before .before .push .ensures) (c .before .before .before .operator .given .1) (push-slots _ _ (c .before .before .before .before .before .before .before .before .before .before .before .before .before .before .before .before .before .before .before .push-older-node .ensures) (c .before .before .before .before .before .before .before .before .before .before .before .before .before .item .given .1) (c .before .before .before .before .before .before .before .before .before .before .before .before .before .before .before .before .before .before .before .before .before .before .before .before .pre))
+push-requires-2 c κs =
+    let b = c .before .before .before .before .before .before .before .before .before in
+    let a = b .before .before .before .before in
+    let o = a .before .before .before .before .before .before in
+    push-slots _ _ (b .push .ensures) (c .before .before .before .operator .given .1)
+    (push-slots _ _ (o .push-older-node .ensures) (a .item .given .1) (o .before .before .before .before .before .pre))
 
 returns-3 : tie.Need-returns-3
 returns-3 c = search (needs, binary-pushed)

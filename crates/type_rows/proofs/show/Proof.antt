@@ -12,7 +12,14 @@ slice-aggregate-node-loads : tie.Need-slice-aggregate-node-loads
 slice-aggregate-node-loads c = simp length-take (omega arith)
 
 parse-type-requires : tie.Need-parse-type-requires
-parse-type-requires c κs = record { types = search needs; tokens = search needs; at = search needs; loads = simp length-take; slots = simp length-take (omega arith); used = search needs }
+parse-type-requires c κs = record {
+  types = search needs;
+  tokens = search needs;
+  at = search needs;
+  loads = simp length-take;
+  slots = simp length-take (omega arith);
+  used = search needs;
+}
 
 pub show-spec : {M : Type 1} → statement M
 show-spec =
