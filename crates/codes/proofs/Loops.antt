@@ -1,9 +1,9 @@
 -- Loops: what a loop of the code keeps between its rounds, for every loop.
-use mathlib.Core.Path.{_≡_}
+use mathlib.Core.Path.{_≡_, ap}
 use Prim.Native.Nat.{ℕ, suc, _+_, _-_, _≤_, _<_}
 use native.Mathlib.Omega.{arith}
 use Rattle.codes.proofs.Onto.{Onto, _then_, first, reads, stops}
-use Rattle.rules.specs.Reading.{Rule, Step, again, done, onward, repeat, pure, refuse, _>>=_}
+use Rattle.rules.specs.Reading.{Rule, ok, Outcome, Step, again, done, onward, repeat, pure, refuse, _>>=_}
 use Rattle.rules.specs.Columns.{Nodes}
 
 -- a round of so many left
@@ -32,6 +32,20 @@ module _ {A B : Type 0} (f : A → Rule Nodes (Step A B)) (over : Rule Nodes B) 
       Onto (repeat f over (suc n) a) c s (refuse x y z) c' s'
   unfolding repeat
   round-stops e = stops _ e
+
+-- what a round's end holds
+abbrev pub heldIn : {A : Type 0} → Step A A → A
+heldIn (again a) = a
+heldIn (done a) = a
+
+-- what was read is the same, and no node was appended
+pub same-held :
+    {A : Type 0} (b b' : Step A A) (p p' : ℕ) {s s' : Nodes} → Onto (pure b) p s (pure b') p' s' →
+    (heldIn b ≡ heldIn b') × (s .count ≡ s' .count)
+same-held {A} b b' p p' e =
+    let x : ok b ≡ ok b' = ap (λ (o : Outcome Nodes (Step A A)). o .result) (e .same) in
+    let y : b ≡ b' = cc in
+    (ap heldIn y, ap (λ (o : Outcome Nodes (Step A A)). o .state .count) (e .same))
 
 -- Between two rounds: the whole goes on as what is left of it, for which there are rounds enough up to the place n.
 pub record Going {A C : Type 0} (whole : Rule Nodes C) (c₀ : ℕ) (s₀ : Nodes) (rest : ℕ → A → Rule Nodes C) (n : ℕ)

@@ -5,9 +5,7 @@ use mathlib.Core.Option.{none}
 use mathlib.Core.List.{List, [], _∷_}
 use Prim.Native.Nat.{ℕ, _+_}
 use native.Mathlib.Omega.{arith}
-use lib.Dec.{eqb}
 use mathlib.Core.Logic.{_⊎_, inl, inr}
-use borrow.Author.Tests.{eq-eqb, ne-eqb, eqb-false}
 use Rattle.codes.specs.declared.Parsed.{Parsed}
 use Rattle.codes.specs.declared.TokenId.{TokenId}
 use Rattle.codes.specs.Answer.{Quiet, Sized, row, token}
@@ -17,7 +15,7 @@ use Rattle.codes.proofs.Loops.{round-last}
 use Rattle.tokens.specs.declared.Consumed.{Consumed}
 use Rattle.tokens.specs.declared.Consumed.the-variants.{Next, Wrong}
 use Rattle.tokens.specs.Answer.{kindIn, consumed, consuming}
-use Rattle.tokens.proofs.Laws.{holding-consumed}
+use Rattle.tokens.proofs.Laws.{holding-consumed, there, not-there, apart}
 use Rattle.tokens.proofs.Bounds.{past-token, past-consumed}
 use Rattle.references.specs.declared.Address.{Address}
 use Rattle.references.specs.declared.Address.the-variants.{Name as At, Refused as NoName}
@@ -29,27 +27,13 @@ use Rattle.openings.specs.declared.Opening.the-variants.{List as Items, 
 use Rattle.openings.specs.Answer.{Holds, Onward, Opens, Starts, listed, referred, alone, grouped}
 use Rattle.openings.specs.Answer.{naming, calling, pointing, primaryOr}
 use Rattle.rules.specs.Codes.BaseToken as BaseToken
-use Rattle.rules.specs.Reading.{Rule, pure, _>>=_, optional, choose}
+use Rattle.rules.specs.Reading.{Rule, _>>=_, choose}
 use Rattle.rules.specs.Columns.{Nodes, columns, pushEndOfList}
 use Rattle.rules.specs.Expressions.{named, builtin, pointer, reference, primary, stepped, steps, step, deref}
 use Rattle.rules.specs.Expressions.{nameAlone, elements}
 use Rattle.rules.proofs.Forward.{Nonzero}
 use Rattle.rules.proofs.Demand.{below}
 use Rattle.rules.proofs.Moves.{address-moves}
-
--- an optional token, by the kind that stands there
-module _ (tk : List ℕ) (c t : ℕ) (peeked : t ≡ kindIn tk c) (tv : List ℕ) {s : Nodes} where
-  there : (key : ℕ) → t ≡ key → Onto (optional (row tk tv) key) c s (pure true) (c + 1) s
-  unfolding optional
-  there key e = record { same = rw (eq-eqb _ _ (sym peeked ∙ e)) refl }
-
-  not-there : (key : ℕ) → (t ≡ key → ⊥) → Onto (optional (row tk tv) key) c s (pure false) c s
-  unfolding optional
-  not-there key h = record { same = rw (ne-eqb _ _ (λ e. h (peeked ∙ e))) refl }
-
--- two kinds are not the same
-apart : (t key other : ℕ) → eqb key other ≡ false → t ≡ key → t ≡ other → ⊥
-apart t key other d e f = eqb-false key other d (sym e ∙ f)
 
 -- what every reader takes for granted holds after a name and the ampersands before it
 past-address :

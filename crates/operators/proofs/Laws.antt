@@ -116,6 +116,10 @@ to-pend (Bits l Or at) = refl
 to-pend (Bits l Xor at) = refl
 to-pend (Shift l op at) = refl
 
+pub more-same :
+    {z : Joint} {q : Pending} {p : TokenId} {j : ℕ} → z ≡ More q p j → z ≡ More (toPending (pend q)) p j
+more-same {q = q} {p = p} {j = j} e = e ∙ ap (λ (x : Pending). More x p j) (sym (to-pend q))
+
 pend-to : (p : Rules.Pending ℕ) → pend (toPending p) ≡ p
 pend-to Rules.first = refl
 pend-to (Rules.joined l op at) = refl

@@ -11,6 +11,7 @@ use Rattle.codes.specs.declared.NodeId.{NodeId}
 use Rattle.codes.specs.declared.TokenId.{TokenId}
 use Rattle.codes.specs.Answer.{As, Gives, Sized, Untyped, Quiet, parsed, nodes, row}
 use Rattle.codes.proofs.Onto.{Onto, plain-parsed, moved, came-read, split, sized-after}
+use Rattle.codes.proofs.Loops.{heldIn, same-held}
 use Rattle.nodes.specs.declared.ActiveList.{ActiveList}
 use Rattle.nodes.specs.Answer.{Slots, ends, active, past}
 use Rattle.nodes.proofs.Laws.{active-ends}
@@ -26,7 +27,7 @@ use Rattle.references.specs.Answer.{closing, counting, addressing, eleme
 use Rattle.references.proofs.Laws.{holding-depths, holding-addressed, holding-stepped}
 use Rattle.rules.specs.Codes.{refusalOf}
 use Rattle.rules.specs.Codes.Limit as Limit
-use Rattle.rules.specs.Reading.{Rule, Row, Result, ok, Outcome, Step, again, pure}
+use Rattle.rules.specs.Reading.{Rule, Row, Step, again, pure}
 use Rattle.rules.specs.Columns.{Nodes, Ends, columns}
 use Rattle.rules.specs.Expressions.{closed, deref, nameAlone, stepEnd, elementEnd, member}
 use Rattle.rules.proofs.Forward.{Stop, Nonzero, Goes, _then_, eased, appends, closes, consumes}
@@ -81,19 +82,15 @@ pub after-name :
 after-name name {c = c} g q z = slots-after plain-parsed (name-there {n = c} name) (omega arith) g q z
 
 -- the list of a step is as that of its item
-step-fits :
-    (at : Row) (l : Option Ends) (content : ℕ) {c : ℕ} {s : Nodes} {m : Option Ends} {c' : ℕ} {s' : Nodes} →
-    Onto (stepEnd columns at l content) c s (pure (again m)) c' s' → past (active m) ≤ s' .count
+pub step-fits :
+    (at : Row) (l : Option Ends) (content : ℕ) {c : ℕ} {s : Nodes} {b : Step (Option Ends) (Option Ends)} {c' : ℕ}
+    {s' : Nodes} → Onto (stepEnd columns at l content) c s (pure b) c' s' → past (active (heldIn b)) ≤ s' .count
 unfolding stepEnd
-step-fits at l content {m = m} {s' = s'} e =
+step-fits at l content {b = b} {c' = c'} {s' = s'} e =
     let w = split e in
-    let x : _≡_ {A = Result (Step (Option Ends) (Option Ends))} (ok (again (w .value))) (ok (again m)) =
-    ap (λ (o : Outcome Nodes (Step (Option Ends) (Option Ends))). o .result) (w .two .same) in
-    let y : w .state .count ≡ s' .count =
-    ap (λ (o : Outcome Nodes (Step (Option Ends) (Option Ends))). o .state .count) (w .two .same) in
-    let z : w .value ≡ m = cc in
-    let v : past (active (w .value)) ≡ past (active m) = ap (λ (x : Option Ends). past (active x)) z in
-    let (b, _) = item-fits l (w .one) in
+    let (y, z) = same-held (again (w .value)) b (w .cursor) c' (w .two) in
+    let v : past (active (w .value)) ≡ past (active (heldIn b)) = ap (λ (x : Option Ends). past (active x)) y in
+    let (h, _) = item-fits l (w .one) in
     omega arith
 
 more-same :

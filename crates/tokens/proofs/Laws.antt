@@ -5,7 +5,7 @@ use mathlib.Core.List.{List}
 use Prim.Native.Nat.{ℕ, _+_}
 use native.Mathlib.Omega.{arith}
 use lib.Dec.{eqb}
-use borrow.Author.Tests.{eq-eqb, ne-eqb, eqb-true}
+use borrow.Author.Tests.{eq-eqb, ne-eqb, eqb-true, eqb-false}
 use Rattle.rules.specs.Codes.{refusalOf}
 use Rattle.rules.specs.Reading.{ok, pure, consume, optional}
 use Rattle.rules.specs.Columns.{Nodes}
@@ -71,6 +71,20 @@ module _ {tk : List ℕ} {key c : ℕ} {o : Optional} (g : Optionally tk key c o
   pub found-next : o .found ≡ true → (o .cursor .0 ≡ c + 1) × (kindIn tk c ≡ key)
   unfolding optional
   found-next e = let d = sym is-found ∙ e in (g .cursor ∙ rw d refl, eqb-true _ _ d)
+
+-- an optional token, by the kind that stands there
+module _ (tk : List ℕ) (c t : ℕ) (peeked : t ≡ kindIn tk c) (tv : List ℕ) {s : Nodes} where
+  pub there : (key : ℕ) → t ≡ key → Onto (optional (row tk tv) key) c s (pure true) (c + 1) s
+  unfolding optional
+  there key e = record { same = rw (eq-eqb _ _ (sym peeked ∙ e)) refl }
+
+  pub not-there : (key : ℕ) → (t ≡ key → ⊥) → Onto (optional (row tk tv) key) c s (pure false) c s
+  unfolding optional
+  not-there key h = record { same = rw (ne-eqb _ _ (λ e. h (peeked ∙ e))) refl }
+
+-- two kinds are not the same
+pub apart : (t key other : ℕ) → eqb key other ≡ false → t ≡ key → t ≡ other → ⊥
+apart t key other d e f = eqb-false key other d (sym e ∙ f)
 
 -- what the test of a negation tells
 pub negated : (b : Bool) {v : Bool} → not b ≡ v → b ≡ not v

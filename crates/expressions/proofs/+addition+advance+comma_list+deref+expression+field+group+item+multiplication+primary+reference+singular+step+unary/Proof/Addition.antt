@@ -1,0 +1,73 @@
+use mathlib.Core.Path.{refl}
+use Rattle.codes.specs.Answer.{nodes}
+use Rattle.expressions.proofs.Bounds.{term-slots, past-term}
+use Rattle.expressions.proofs.Operands.{Terms, first-term, sum-stopped, sum-refused, sum-read, sum-sized, sum-less, next-term}
+use borrow.Author.Needs.{needs}
+use Prim.Native.Nat.{ℕ, _-_}
+use lib.ListN.{length}
+use Rattle.codes.specs.Answer.{Sized}
+use mathlib.Core.Path.{_≡_}
+use Rattle.expressions.proofs.addition.Reads as addition
+use Rattle.expressions.proofs.+addition+advance+comma_list+deref+expression+field+group+item+multiplication+primary+reference+singular+step+unary.Lts-addition as addition-lts
+use Rattle.expressions.proofs.multiplication.Reads as multiplication
+use Rattle.operators.proofs.join_term.Reads as join-term-reads
+use Rattle.operators.proofs.takes_unary.Reads as takes-unary-reads
+use Rattle.expressions.proofs.+addition+advance+comma_list+deref+expression+field+group+item+multiplication+primary+reference+singular+step+unary.Proof.Shared.{addition-at, multiplication-below}
+
+abbrev calls : ℕ → addition-lts.Claims
+calls t = (takes-unary-reads.Asked, takes-unary-reads.Learnt, multiplication-below t, multiplication.Post, join-term-reads.Asked, join-term-reads.Learnt)
+
+abbrev Inv-loop : addition-lts.InvT-loop
+Inv-loop kinds types node-kinds₀ node-loads₀ count unused pending₀ place₀ used₀ node-kinds node-loads pending place used =
+    (length node-kinds ≡ length node-kinds₀) × (length node-loads ≡ length node-loads₀) ×
+    Sized kinds types node-kinds node-loads place used ×
+    Terms kinds types unused place₀ (nodes node-kinds₀ node-loads₀ used₀) pending place (nodes node-kinds node-loads used)
+
+abbrev μ-loop : addition-lts.MeasureT-loop
+μ-loop kinds types node-kinds₀ node-loads₀ count unused pending₀ place₀ used₀ node-kinds node-loads pending place used =
+    length kinds - place
+
+returns : (t : ℕ) → addition-lts.Need-returns (calls t) (addition-at t) addition.Post Inv-loop μ-loop
+returns t c = search (needs, sum-stopped)
+
+join-term-requires : (t : ℕ) → addition-lts.Need-join-term-requires (calls t) (addition-at t) addition.Post Inv-loop μ-loop
+join-term-requires t c κs = (search (needs, term-slots), search (needs, past-term))
+
+loop-less : (t : ℕ) → addition-lts.Need-loop-less (calls t) (addition-at t) addition.Post Inv-loop μ-loop
+loop-less t c = search (needs, sum-less)
+
+loop-again : (t : ℕ) → addition-lts.Need-loop-again (calls t) (addition-at t) addition.Post Inv-loop μ-loop
+loop-again t c = (search needs, search needs, search (needs, sum-sized), search (needs, next-term))
+
+returns-2 : (t : ℕ) → addition-lts.Need-returns-2 (calls t) (addition-at t) addition.Post Inv-loop μ-loop
+returns-2 t c = search (needs, sum-read)
+
+returns-3 : (t : ℕ) → addition-lts.Need-returns-3 (calls t) (addition-at t) addition.Post Inv-loop μ-loop
+returns-3 t c = search (needs, sum-refused)
+
+loop-holds : (t : ℕ) → addition-lts.Need-loop-holds (calls t) (addition-at t) addition.Post Inv-loop μ-loop
+loop-holds t c = (refl, refl, search needs, first-term _ _ _ _ _)
+
+pub spec : {M : Type 1} (t : ℕ) → addition-lts.Closed (calls t) (addition-at t) addition.Post M
+spec t =
+    addition-lts.spec (calls t) (addition-at t) addition.Post Inv-loop μ-loop
+    (loop-holds t)
+    (λ c κs. search needs)
+    (λ c κs. search needs)
+    (λ c. search needs)
+    (λ c. search needs)
+    (λ c. search needs)
+    (λ c. search needs)
+    (returns t)
+    (join-term-requires t)
+    (λ c. search needs)
+    (loop-less t)
+    (loop-again t)
+    (λ c. search needs)
+    (λ c. search needs)
+    (λ c. search needs)
+    (returns-2 t)
+    (λ c. search needs)
+    (λ c. search needs)
+    (λ c. search needs)
+    (returns-3 t)

@@ -1,0 +1,26 @@
+use borrow.Author.Needs.{needs}
+use Rattle.expressions.proofs.Laws.{too-deep, expression-read}
+use Prim.Native.Nat.{ℕ}
+use Rattle.expressions.proofs.addition.Reads as addition
+use Rattle.expressions.proofs.expression.Reads as expression
+use Rattle.expressions.proofs.+addition+advance+comma_list+deref+expression+field+group+item+multiplication+primary+reference+singular+step+unary.Lts-expression as expression-lts
+use Rattle.expressions.proofs.+addition+advance+comma_list+deref+expression+field+group+item+multiplication+primary+reference+singular+step+unary.Proof.Shared.{addition-below, expression-at}
+
+abbrev calls : ℕ → expression-lts.Claims
+calls t = (addition-below t, addition.Post)
+
+returns : (t : ℕ) → expression-lts.Need-returns (calls t) (expression-at t) expression.Post
+returns t c = search (needs, too-deep)
+
+returns-2 : (t : ℕ) → expression-lts.Need-returns-2 (calls t) (expression-at t) expression.Post
+returns-2 t c = search (needs, expression-read)
+
+pub spec : {M : Type 1} (t : ℕ) → expression-lts.Closed (calls t) (expression-at t) expression.Post M
+spec t =
+    expression-lts.spec (calls t) (expression-at t) expression.Post
+    (returns t)
+    (λ c. search needs)
+    (λ c κs. search needs)
+    (λ c. search needs)
+    (λ c. search needs)
+    (returns-2 t)

@@ -1,0 +1,60 @@
+use Rattle.expressions.proofs.Bounds.{past-expression, expression-slots, expression-kept, item-sized}
+use borrow.Author.Needs.{needs}
+use Rattle.expressions.proofs.Laws.{item-none, item-field, item-stopped, item-read}
+use Prim.Native.Nat.{ℕ}
+use Rattle.expressions.proofs.expression.Reads as expression
+use Rattle.expressions.proofs.field.Reads as field
+use Rattle.expressions.proofs.item.Reads as item
+use Rattle.expressions.proofs.+addition+advance+comma_list+deref+expression+field+group+item+multiplication+primary+reference+singular+step+unary.Lts-item as item-lts
+use Rattle.lists.proofs.finish_item.Reads as finish-item-reads
+use Rattle.tokens.proofs.consume_optional.Reads as consume-optional-reads
+use Rattle.expressions.proofs.+addition+advance+comma_list+deref+expression+field+group+item+multiplication+primary+reference+singular+step+unary.Proof.Shared.{expression-below, field-below, item-at}
+
+abbrev calls : ℕ → item-lts.Claims
+calls t = (consume-optional-reads.Asked, consume-optional-reads.Learnt, field-below t, field.Post, expression-below t, expression.Post, finish-item-reads.Asked, finish-item-reads.Learnt)
+
+returns : (t : ℕ) → item-lts.Need-returns (calls t) (item-at t) item.Post
+returns t c = search (needs, item-none)
+
+field-requires : (t : ℕ) → item-lts.Need-field-requires (calls t) (item-at t) item.Post
+field-requires t c κs = (search needs, (search (needs, item-sized), search needs, search needs))
+
+returns-2 : (t : ℕ) → item-lts.Need-returns-2 (calls t) (item-at t) item.Post
+returns-2 t c = search (needs, item-field)
+
+expression-requires : (t : ℕ) → item-lts.Need-expression-requires (calls t) (item-at t) item.Post
+expression-requires t c κs = (search needs, search (needs, item-sized))
+
+returns-3 : (t : ℕ) → item-lts.Need-returns-3 (calls t) (item-at t) item.Post
+returns-3 t c = search (needs, item-stopped)
+
+finish-item-requires : (t : ℕ) → item-lts.Need-finish-item-requires (calls t) (item-at t) item.Post
+finish-item-requires t c κs =
+    let p = c .before .before .before .before .before .before .before .before .before .before .before .before .before .before .before .before .before .before .before .before .pre .1 in
+    let z = item-sized _ (c .before .before .before .before .before .before .before .before .before .before .before .before .before .before .before .consume-optional .ensures) (c .before .before .before .before .before .before .before .before .before .before .before .before .before .if1 .left) (p .0) in
+    let g = c .before .before .before .before .before .before .before .before .before .expression .ensures in
+    let q = c .before .before .before .item .given .1 in
+    (past-expression _ g q z, expression-slots _ g q z, expression-kept _ g q z (p .1), expression-kept _ g q z (p .2))
+
+returns-4 : (t : ℕ) → item-lts.Need-returns-4 (calls t) (item-at t) item.Post
+returns-4 t c = search (needs, item-read)
+
+pub spec : {M : Type 1} (t : ℕ) → item-lts.Closed (calls t) (item-at t) item.Post M
+spec t =
+    item-lts.spec (calls t) (item-at t) item.Post
+    (λ c κs. search needs)
+    (returns t)
+    (field-requires t)
+    (λ c. search needs)
+    (λ c. search needs)
+    (returns-2 t)
+    (expression-requires t)
+    (λ c. search needs)
+    (λ c. search needs)
+    (λ c. search needs)
+    (λ c. search needs)
+    (returns-3 t)
+    (finish-item-requires t)
+    (λ c. search needs)
+    (λ c. search needs)
+    (returns-4 t)

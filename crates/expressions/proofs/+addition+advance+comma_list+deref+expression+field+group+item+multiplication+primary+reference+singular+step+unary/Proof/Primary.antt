@@ -1,0 +1,78 @@
+use borrow.Author.Needs.{needs}
+use Rattle.expressions.proofs.Bounds.{list-sized, reference-sized, group-sized, name-slots}
+use Rattle.expressions.proofs.Laws.{list-opened, reference-opened, name-opened, group-opened, literal-opened, primary-refused}
+use Prim.Native.Nat.{ℕ}
+use Rattle.expressions.proofs.comma_list.Reads as comma-list
+use Rattle.expressions.proofs.group.Reads as group
+use Rattle.expressions.proofs.primary.Reads as primary
+use Rattle.expressions.proofs.+addition+advance+comma_list+deref+expression+field+group+item+multiplication+primary+reference+singular+step+unary.Lts-primary as primary-lts
+use Rattle.expressions.proofs.reference.Reads as reference
+use Rattle.literals.proofs.parse_literal.Reads as parse-literal-reads
+use Rattle.openings.proofs.parse_opening.Reads as parse-opening-reads
+use Rattle.references.proofs.push_name.Reads as push-name-reads
+use Rattle.expressions.proofs.+addition+advance+comma_list+deref+expression+field+group+item+multiplication+primary+reference+singular+step+unary.Proof.Shared.{comma-list-below, group-below, primary-at, reference-below}
+
+abbrev calls : ℕ → primary-lts.Claims
+calls t = (parse-opening-reads.Asked, parse-opening-reads.Learnt, comma-list-below t, comma-list.Post, reference-below t, reference.Post, push-name-reads.Asked, push-name-reads.Learnt, group-below t, group.Post, parse-literal-reads.Asked, parse-literal-reads.Learnt)
+
+comma-list-requires : (t : ℕ) → primary-lts.Need-comma-list-requires (calls t) (primary-at t) primary.Post
+comma-list-requires t c κs = (search needs, search (needs, list-sized))
+
+reference-requires : (t : ℕ) → primary-lts.Need-reference-requires (calls t) (primary-at t) primary.Post
+reference-requires t c κs = (search needs, search (needs, reference-sized))
+
+push-name-requires : (t : ℕ) → primary-lts.Need-push-name-requires (calls t) (primary-at t) primary.Post
+push-name-requires t c κs = search (needs, name-slots)
+
+group-requires : (t : ℕ) → primary-lts.Need-group-requires (calls t) (primary-at t) primary.Post
+group-requires t c κs = (search needs, search (needs, group-sized))
+
+returns : (t : ℕ) → primary-lts.Need-returns (calls t) (primary-at t) primary.Post
+returns t c = search (needs, list-opened)
+
+returns-2 : (t : ℕ) → primary-lts.Need-returns-2 (calls t) (primary-at t) primary.Post
+returns-2 t c = search (needs, reference-opened)
+
+returns-3 : (t : ℕ) → primary-lts.Need-returns-3 (calls t) (primary-at t) primary.Post
+returns-3 t c = search (needs, name-opened)
+
+returns-4 : (t : ℕ) → primary-lts.Need-returns-4 (calls t) (primary-at t) primary.Post
+returns-4 t c = search (needs, group-opened)
+
+returns-5 : (t : ℕ) → primary-lts.Need-returns-5 (calls t) (primary-at t) primary.Post
+returns-5 t c = search (needs, literal-opened)
+
+returns-6 : (t : ℕ) → primary-lts.Need-returns-6 (calls t) (primary-at t) primary.Post
+returns-6 t c = search (needs, primary-refused)
+
+pub spec : {M : Type 1} (t : ℕ) → primary-lts.Closed (calls t) (primary-at t) primary.Post M
+spec t =
+    primary-lts.spec (calls t) (primary-at t) primary.Post
+    (λ c κs. search needs)
+    (λ c. search needs)
+    (comma-list-requires t)
+    (λ c. search needs)
+    (reference-requires t)
+    (λ c. search needs)
+    (push-name-requires t)
+    (λ c. search needs)
+    (group-requires t)
+    (λ c. search needs)
+    (λ c κs. search needs)
+    (λ c. search needs)
+    (λ c. search needs)
+    (λ c. search needs)
+    (returns t)
+    (λ c. search needs)
+    (λ c. search needs)
+    (returns-2 t)
+    (λ c. search needs)
+    (λ c. search needs)
+    (returns-3 t)
+    (λ c. search needs)
+    (λ c. search needs)
+    (returns-4 t)
+    (λ c. search needs)
+    (λ c. search needs)
+    (returns-5 t)
+    (returns-6 t)

@@ -1,0 +1,49 @@
+use Rattle.expressions.proofs.Bounds.{after-cast-unary}
+use borrow.Author.Needs.{needs}
+use Rattle.expressions.proofs.Bounds.{past-cast}
+use Rattle.expressions.proofs.Laws.{singular-stopped, singular-bare, singular-read}
+use Prim.Native.Nat.{ℕ}
+use Rattle.expressions.proofs.singular.Reads as singular
+use Rattle.expressions.proofs.+addition+advance+comma_list+deref+expression+field+group+item+multiplication+primary+reference+singular+step+unary.Lts-singular as singular-lts
+use Rattle.expressions.proofs.unary.Reads as unary
+use Rattle.casts.proofs.finish_singular.Reads as finish-singular-reads
+use Rattle.casts.proofs.optional_cast.Reads as optional-cast-reads
+use Rattle.expressions.proofs.+addition+advance+comma_list+deref+expression+field+group+item+multiplication+primary+reference+singular+step+unary.Proof.Shared.{singular-at, unary-below}
+
+abbrev calls : ℕ → singular-lts.Claims
+calls t = (optional-cast-reads.Asked, optional-cast-reads.Learnt, unary-below t, unary.Post, finish-singular-reads.Asked, finish-singular-reads.Learnt)
+
+unary-requires : (t : ℕ) → singular-lts.Need-unary-requires (calls t) (singular-at t) singular.Post
+unary-requires t c κs = (search needs, search (needs, past-cast))
+
+returns : (t : ℕ) → singular-lts.Need-returns (calls t) (singular-at t) singular.Post
+returns t c = search (needs, singular-stopped)
+
+returns-2 : (t : ℕ) → singular-lts.Need-returns-2 (calls t) (singular-at t) singular.Post
+returns-2 t c = search (needs, singular-bare)
+
+finish-singular-requires : (t : ℕ) → singular-lts.Need-finish-singular-requires (calls t) (singular-at t) singular.Post
+finish-singular-requires t c κs =
+    after-cast-unary _ _ (c .before .before .before .before .before .before .before .before .before .before .before .before .before .before .optional-cast .ensures) (c .before .before .before .before .before .before .before .before .before .before .unary .ensures) (c .before .before .before .before .operand .given .1)
+    (c .before .before .before .before .before .before .before .before .before .before .before .before .before .before .before .before .before .before .before .pre .1)
+
+returns-3 : (t : ℕ) → singular-lts.Need-returns-3 (calls t) (singular-at t) singular.Post
+returns-3 t c = search (needs, singular-read)
+
+pub spec : {M : Type 1} (t : ℕ) → singular-lts.Closed (calls t) (singular-at t) singular.Post M
+spec t =
+    singular-lts.spec (calls t) (singular-at t) singular.Post
+    (λ c κs. search needs)
+    (unary-requires t)
+    (λ c. search needs)
+    (λ c. search needs)
+    (λ c. search needs)
+    (λ c. search needs)
+    (returns t)
+    (λ c. search needs)
+    (λ c. search needs)
+    (returns-2 t)
+    (finish-singular-requires t)
+    (λ c. search needs)
+    (λ c. search needs)
+    (returns-3 t)

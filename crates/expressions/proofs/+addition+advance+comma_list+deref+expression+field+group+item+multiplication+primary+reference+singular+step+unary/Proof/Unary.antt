@@ -1,0 +1,53 @@
+use borrow.Author.Needs.{needs}
+use Rattle.expressions.proofs.Bounds.{size-inside, operand-sized, past-operand, operand-slots}
+use Rattle.expressions.proofs.Laws.{size-read, unary-stopped, unary-read}
+use Prim.Native.Nat.{ℕ}
+use Rattle.expressions.proofs.primary.Reads as primary
+use Rattle.expressions.proofs.unary.Reads as unary
+use Rattle.expressions.proofs.+addition+advance+comma_list+deref+expression+field+group+item+multiplication+primary+reference+singular+step+unary.Lts-unary as unary-lts
+use Rattle.casts.proofs.parse_size_of.Reads as parse-size-of-reads
+use Rattle.expressions.proofs.after_prefix.Reads as after-prefix-reads
+use Rattle.expressions.proofs.finish_unary.Reads as finish-unary-reads
+use Rattle.tokens.proofs.peek.Reads as peek-reads
+use Rattle.expressions.proofs.+addition+advance+comma_list+deref+expression+field+group+item+multiplication+primary+reference+singular+step+unary.Proof.Shared.{primary-below, unary-at}
+
+abbrev calls : ℕ → unary-lts.Claims
+calls t = (peek-reads.Asked, peek-reads.Learnt, parse-size-of-reads.Asked, parse-size-of-reads.Learnt, after-prefix-reads.Asked, after-prefix-reads.Learnt, primary-below t, primary.Post, finish-unary-reads.Asked, finish-unary-reads.Learnt)
+
+parse-size-of-requires : (t : ℕ) → unary-lts.Need-parse-size-of-requires (calls t) (unary-at t) unary.Post
+parse-size-of-requires t c κs = (search needs, search (needs, size-inside))
+
+returns : (t : ℕ) → unary-lts.Need-returns (calls t) (unary-at t) unary.Post
+returns t c = search (needs, size-read)
+
+primary-requires : (t : ℕ) → unary-lts.Need-primary-requires (calls t) (unary-at t) unary.Post
+primary-requires t c κs = (search needs, search (needs, operand-sized))
+
+returns-2 : (t : ℕ) → unary-lts.Need-returns-2 (calls t) (unary-at t) unary.Post
+returns-2 t c = search (needs, unary-stopped)
+
+finish-unary-requires : (t : ℕ) → unary-lts.Need-finish-unary-requires (calls t) (unary-at t) unary.Post
+finish-unary-requires t c κs = (search (needs, past-operand), search (needs, operand-slots))
+
+returns-3 : (t : ℕ) → unary-lts.Need-returns-3 (calls t) (unary-at t) unary.Post
+returns-3 t c = search (needs, unary-read)
+
+pub spec : {M : Type 1} (t : ℕ) → unary-lts.Closed (calls t) (unary-at t) unary.Post M
+spec t =
+    unary-lts.spec (calls t) (unary-at t) unary.Post
+    (λ c κs. search needs)
+    (parse-size-of-requires t)
+    (λ c. search needs)
+    (λ c. search needs)
+    (returns t)
+    (λ c κs. search needs)
+    (primary-requires t)
+    (λ c. search needs)
+    (λ c. search needs)
+    (λ c. search needs)
+    (λ c. search needs)
+    (returns-2 t)
+    (finish-unary-requires t)
+    (λ c. search needs)
+    (λ c. search needs)
+    (returns-3 t)

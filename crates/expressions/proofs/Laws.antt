@@ -1,0 +1,428 @@
+-- How the answers of the readers of expressions follow from those of the readers that they call, a law for each return.
+use mathlib.Core.Path.{_≡_, refl, sym, _∙_}
+use mathlib.Core.Bool.{Bool, true, false, not}
+use mathlib.Core.List.{List, [], _∷_}
+use Prim.Native.Nat.{ℕ, zero, suc, _+_, _-_}
+use native.Mathlib.Numerals.{sub-one}
+use lib.Dec.{eqb}
+use borrow.Author.Tests.{eq-eqb, ne-eqb, eqb-true, eqb-false}
+use Rattle.codes.specs.declared.Parsed.{Parsed}
+use Rattle.codes.specs.declared.Parsed.the-variants.{Node, Refused}
+use Rattle.codes.specs.declared.NodeId.{NodeId}
+use Rattle.codes.specs.declared.TokenId.{TokenId}
+use Rattle.codes.specs.Answer.{As, Gives, Quiet, Untyped, Sized, nodes, token, nodeId, row, refusal, parsed}
+use Rattle.codes.proofs.Onto.{Onto, _then_, stays, first, reads, at-here, takes, peeks, answers, declines, shows, told}
+use Rattle.codes.proofs.Onto.{hands-on, held, came-read, plain-parsed, regroup, Rest, beside, picked}
+use Rattle.tokens.specs.declared.Optional.{Optional}
+use Rattle.tokens.specs.declared.Consumed.{Consumed}
+use Rattle.tokens.specs.declared.Consumed.the-variants.{Next, Wrong}
+use Rattle.tokens.specs.Answer.{kindIn, Optionally, consumed, consuming}
+use Rattle.tokens.proofs.Laws.{optioned, negated, holding-consumed}
+use Rattle.casts.specs.Answer.{Casting}
+use Rattle.references.specs.Answer.{closing}
+use Rattle.lists.specs.declared.Owner.{Owner}
+use Rattle.lists.specs.Answer.{ownerOf, turned, ending, fieldEnd, shorthandEnd}
+use Rattle.lists.specs.declared.Turn.{Turn}
+use Rattle.lists.specs.declared.Turn.the-variants.{Last, Refused as Stopped}
+use Rattle.nodes.specs.declared.ActiveList.{ActiveList}
+use Rattle.nodes.specs.Answer.{ends}
+use Rattle.nodes.proofs.Laws.{active-ends}
+use Rattle.literals.specs.Answer.{Literal}
+use Rattle.openings.specs.declared.Opening.{Opening}
+use Rattle.openings.specs.declared.Opening.the-variants.{List as Items, Reference, Name, Group, Literal as Plainly, Refused as Unopened}
+use Rattle.openings.specs.Answer.{Holds, Onward, Opens, Starts, listed, referred, alone as named, grouped, primaryOr}
+use Rattle.expressions.specs.Answer.{prefixEnd, unaryEnd, sums, unaries, factors, within, advancing, dereferring}
+use Rattle.expressions.specs.Answer.{listItems, fields}
+use Rattle.rules.specs.Codes.BaseToken as BaseToken
+use Rattle.rules.specs.Codes.ParseNode as ParseNode
+use Rattle.rules.specs.Codes.Refusal as Refusal
+use Rattle.rules.specs.Codes.UnaryOp as UnaryOp
+use Rattle.rules.specs.Codes.BinaryOp as BinaryOp
+use Rattle.rules.specs.Codes.{pick}
+use Rattle.rules.specs.Reading.{Row, Rule, Result, ok, no, next, pure, choose, _>>=_}
+use Rattle.rules.specs.Columns.{Nodes, columns}
+use Rattle.rules.specs.Types.{type}
+use Rattle.rules.specs.Expressions.{binary, advanced, singular, singularEnd, sizeOf, listItem, field}
+use Rattle.rules.specs.Expressions.{expression, nameAlone, parenthesized, prefix, prefixed, lengthOf, unary, primary}
+
+-- the operand's place, by the first token of a unary
+pub data Prefixes : ℕ → Type 0 where
+  pipe : Prefixes BaseToken.Pipe
+  exclamation : Prefixes BaseToken.Exclamation
+  minus : Prefixes BaseToken.Minus
+
+pub prefix-next : (t c : ℕ) {key : ℕ} → Prefixes key → t ≡ key → c + 1 ≡ prefixEnd t c
+prefix-next t c pipe e = rw e refl
+prefix-next t c exclamation e = rw e refl
+prefix-next t c minus e = rw e refl
+
+abbrev NoPrefix : ℕ → Type 0
+NoPrefix t = Rest t (Unit {0}) (BaseToken.Pipe ∷ BaseToken.Exclamation ∷ BaseToken.Minus ∷ [])
+
+pub prefix-none : (t c : ℕ) → NoPrefix t → c ≡ prefixEnd t c
+prefix-none t c h = rw (ne-eqb _ _ (h .0 .0 .1), ne-eqb _ _ (h .0 .1), ne-eqb _ _ (h .1)) refl
+
+-- the unary operators
+pub data Operator : ℕ → ℕ → Type 0 where
+  complement : Operator BaseToken.Exclamation UnaryOp.BitwiseComplement
+  negative : Operator BaseToken.Minus UnaryOp.Negative
+
+-- after the operand of a unary
+module _ (tk : List ℕ) (t at e : ℕ) {c : ℕ} where
+  pub length-ends :
+      t ≡ BaseToken.Pipe → {s : Nodes} {r : Parsed} {ks ls : List ℕ} →
+      Untyped parsed (closing BaseToken.Pipe ParseNode.LengthOf e) tk c s r ks ls →
+      Untyped parsed (unaryEnd t at e) tk c s r ks ls
+  unfolding unaryEnd choose closing
+  length-ends q g = record { run = λ tv. rw q (g .run tv) }
+
+  pub prefix-ends :
+      {key op : ℕ} → Operator key op → t ≡ key → {s : Nodes} {r : Parsed} {ks ls : List ℕ} →
+      Gives (prefix columns at op e) c s r ks ls → Untyped parsed (unaryEnd t at e) tk c s r ks ls
+  unfolding unaryEnd choose
+  prefix-ends complement q g = record { run = λ tv. rw q g }
+  prefix-ends negative q g = record { run = λ tv. rw q g }
+
+  pub primary-ends :
+      {ks ls : List ℕ} {k : ℕ} → NoPrefix t →
+      Untyped parsed (unaryEnd t at e) tk c (nodes ks ls k) (Node (nodeId e) (token c) k) ks ls
+  unfolding unaryEnd
+  primary-ends h = record { run = λ tv. answers (beside t _ _ h) }
+
+-- all nesting is used
+pub too-deep :
+    (tk tv : List ℕ) (u c k : ℕ) (ks ls : List ℕ) → u ≡ 0 →
+    Gives (expression columns (row tk tv) u) c (nodes ks ls k) (refusal Refusal.NestingExceeded c c c k) ks ls
+unfolding expression
+too-deep tk tv u c k ks ls e = rw e (declines (at-here _))
+
+deeper : (row : Row) (u : ℕ) → (u ≡ 0 → ⊥) → expression columns row u ≡ sums (u - 1) row
+unfolding expression sums
+deeper row zero h = absurd (h refl)
+deeper row (suc m) h = rw (sub-one (suc m)) refl
+
+pub expression-read :
+    (tk tv : List ℕ) (u c : ℕ) → (u ≡ 0 → ⊥) → {s : Nodes} {r : Parsed} {ks ls : List ℕ} →
+    Gives (sums (u - 1) (row tk tv)) c s r ks ls → Gives (expression columns (row tk tv) u) c s r ks ls
+expression-read tk tv u c h g = rw (deeper (row tk tv) u h) g
+
+-- an expression in parentheses
+module _ (tk tv : List ℕ) (u c : ℕ) {s : Nodes} {r₁ : Parsed} {ks₁ ls₁ : List ℕ}
+    (g : Gives (expression columns (row tk tv) u) c s r₁ ks₁ ls₁) where
+  pub group-stopped :
+      {x : ℕ} {a e p : TokenId} {k : ℕ} → r₁ ≡ Refused x a e p k →
+      Gives (within grouped u (row tk tv)) c s r₁ ks₁ ls₁
+  unfolding within grouped parenthesized
+  group-stopped q = hands-on _ stays (told g q)
+
+  pub group-read :
+      {n : NodeId} {p : TokenId} {k : ℕ} → r₁ ≡ Node n p k → {r : Parsed} {ks ls : List ℕ} →
+      Untyped parsed (closing BaseToken.ParenRight ParseNode.Parenthesized (n .0)) tk (p .0) (nodes ks₁ ls₁ k) r ks ls →
+      Gives (within grouped u (row tk tv)) c s r ks ls
+  unfolding within grouped parenthesized closing
+  group-read q d = shows (reads _ (came-read plain-parsed g q)) (d .run tv)
+
+-- a step that changes nothing may follow
+followed :
+    {A : Type 0} (m : Rule Nodes A) (f : A → Rule Nodes A) {c : ℕ} {s : Nodes} →
+    ((a : A) (c : ℕ) (s : Nodes) → f a c s ≡ pure a c s) → Onto m c s (m >>= f) c s
+unfolding _>>=_
+followed {A} m f {c} {s} h = record { same = go (m c s .result) (m c s .cursor) (m c s .state) }
+  where
+    go :
+        (q : Result A) (c : ℕ) (s : Nodes) → record { result = q; cursor = c; state = s } ≡ next q c s f
+    go (ok a) c s = sym (h a c s)
+    go (no n x y) c s = refl
+
+-- the operand of a unary that is no size, and what follows it
+abbrev Operated : List ℕ → List ℕ → ℕ → ℕ → ℕ → Rule Nodes ℕ
+Operated tk tv u c t =
+    within (primaryOr (eqb t BaseToken.Pipe)) u (row tk tv) >>= λ e. unaryEnd t c e (row tk tv)
+
+module _ (tk tv : List ℕ) (u c t : ℕ) (peeked : t ≡ kindIn tk c) {s : Nodes} where
+  piped : t ≡ BaseToken.Pipe → Onto (unaries u (row tk tv)) c s (Operated tk tv u c t) (prefixEnd t c) s
+  unfolding unaries unary choose lengthOf within primaryOr unaryEnd
+  piped e = rw e (peeks _ _ (sym e ∙ peeked) then takes _ _ (sym e ∙ peeked))
+
+  operator :
+      {key op : ℕ} → Operator key op → t ≡ key →
+      Onto (unaries u (row tk tv)) c s (Operated tk tv u c t) (prefixEnd t c) s
+  unfolding unaries unary choose prefixed within primaryOr unaryEnd
+  operator complement e = rw e (peeks _ _ (sym e ∙ peeked) then at-here _ then takes _ _ (sym e ∙ peeked))
+  operator negative e = rw e (peeks _ _ (sym e ∙ peeked) then at-here _ then takes _ _ (sym e ∙ peeked))
+
+  -- a primary alone
+  alone :
+      (t ≡ BaseToken.PipeForType → ⊥) → NoPrefix t →
+      Onto (unaries u (row tk tv)) c s (Operated tk tv u c t) (prefixEnd t c) s
+  unfolding unaries unary within primaryOr unaryEnd
+  alone n h =
+      rw (← prefix-none t c h, ne-eqb _ _ (h .0 .0 .1))
+      (peeks _ _ peeked then beside t _ _ ((((tt, n), h .0 .0 .1), h .0 .1), h .1) then
+      followed _ _ (λ a c s. beside t _ _ h .same))
+
+-- a primary, by its first tokens
+module _ (tk tv : List ℕ) (u : ℕ) (piped : Bool) (c k : ℕ) {ks ls : List ℕ} where
+  onward :
+      {m : Holds} {p j : ℕ} → Onward (primaryOr piped) tk c k m p j → {r : Parsed} {ks' ls' : List ℕ} →
+      Gives (within m u (row tk tv)) p (nodes ks ls j) r ks' ls' →
+      Gives (within (primaryOr piped) u (row tk tv)) c (nodes ks ls k) r ks' ls'
+  unfolding within
+  onward h d = shows (record { same = h .same tv _ ks ls }) d
+
+  module _ {o : Opening} (g : Starts piped tk c k o) where
+    pub list-opened :
+        {owner : Owner} {p : TokenId} {j : ℕ} → o ≡ Items owner p j → {r : Parsed} {ks' ls' : List ℕ} →
+        Gives (within (listed (ownerOf owner)) u (row tk tv)) (p .0) (nodes ks ls j) r ks' ls' →
+        Gives (within (primaryOr piped) u (row tk tv)) c (nodes ks ls k) r ks' ls'
+    unfolding Starts Opens
+    list-opened q d = onward (rw q at g) d
+
+    pub reference-opened :
+        {depth : ℕ} {name : TokenId} {isPointer : Bool} {p : TokenId} {j : ℕ} → o ≡ Reference depth name isPointer p j →
+        {r : Parsed} {ks' ls' : List ℕ} →
+        Gives (within (referred c depth (name .0) isPointer) u (row tk tv)) (p .0) (nodes ks ls j) r ks' ls' →
+        Gives (within (primaryOr piped) u (row tk tv)) c (nodes ks ls k) r ks' ls'
+    unfolding Starts Opens
+    reference-opened q d = onward (rw q at g) d
+
+    pub name-opened :
+        {p : TokenId} {j : ℕ} → o ≡ Name p j → {r : Parsed} {ks' ls' : List ℕ} →
+        Gives (nameAlone columns c) (p .0) (nodes ks ls j) r ks' ls' →
+        Gives (within (primaryOr piped) u (row tk tv)) c (nodes ks ls k) r ks' ls'
+    unfolding Starts Opens within named
+    name-opened q d = onward (rw q at g) d
+
+    pub group-opened :
+        {p : TokenId} {j : ℕ} → o ≡ Group p j → {r : Parsed} {ks' ls' : List ℕ} →
+        Gives (within grouped u (row tk tv)) (p .0) (nodes ks ls j) r ks' ls' →
+        Gives (within (primaryOr piped) u (row tk tv)) c (nodes ks ls k) r ks' ls'
+    unfolding Starts Opens
+    group-opened q d = onward (rw q at g) d
+
+    pub literal-opened :
+        {t : ℕ} → o ≡ Plainly t → {r : Parsed} {ks' ls' : List ℕ} →
+        Literal tk tv t c (nodes ks ls k) r ks' ls' →
+        Gives (within (primaryOr piped) u (row tk tv)) c (nodes ks ls k) r ks' ls'
+    unfolding Starts within primaryOr
+    literal-opened q d =
+        let (h, e) = rw q at g in
+        rw e
+        (d .run (h .token) (h .no-ampersand) (h .no-identifier) (h .no-builtin) (h .no-bracket) (h .no-parenthesis) _)
+
+    pub primary-refused :
+        {r : Parsed} → o ≡ Unopened r → Gives (within (primaryOr piped) u (row tk tv)) c (nodes ks ls k) r ks ls
+    unfolding Starts Opens within
+    primary-refused q = (rw q at g) tv _ ks ls
+
+-- a name with its steps, and what follows a pointer
+module _ (tk tv : List ℕ) (u c start depth name : ℕ) {s : Nodes} {r₁ : Parsed} {ks₁ ls₁ : List ℕ}
+    (g : Gives (within (dereferring start depth name) u (row tk tv)) c s r₁ ks₁ ls₁) where
+  pub reference-stopped :
+      (isPointer : Bool) {x : ℕ} {a e p : TokenId} {k : ℕ} → r₁ ≡ Refused x a e p k →
+      Gives (within (referred start depth name isPointer) u (row tk tv)) c s r₁ ks₁ ls₁
+  unfolding within dereferring referred
+  reference-stopped true q = hands-on _ stays (told g q)
+  reference-stopped false q = g
+
+  pub reference-alone :
+      {isPointer : Bool} → isPointer ≡ false → {n : NodeId} {p : TokenId} {k : ℕ} → r₁ ≡ Node n p k →
+      Gives (within (referred start depth name isPointer) u (row tk tv)) c s (Node n p k) ks₁ ls₁
+  unfolding within dereferring referred
+  reference-alone e q = rw (e, ← q) g
+
+  pub reference-advanced :
+      {isPointer : Bool} → isPointer ≡ true → {n : NodeId} {p : TokenId} {k : ℕ} → r₁ ≡ Node n p k → {r : Parsed}
+      {ks ls : List ℕ} → Gives (within (advancing (n .0)) u (row tk tv)) (p .0) (nodes ks₁ ls₁ k) r ks ls →
+      Gives (within (referred start depth name isPointer) u (row tk tv)) c s r ks ls
+  unfolding within dereferring referred advancing
+  reference-advanced e q d = rw e (shows (reads _ (came-read plain-parsed g q)) d)
+
+-- what may follow a pointer
+module _ (tk tv : List ℕ) (u c left : ℕ) {k : ℕ} {ks ls : List ℕ} {o : Optional}
+    (d : Optionally tk BaseToken.Dots c o) where
+  pub advance-none :
+      not (o .found) ≡ true →
+      Gives (within (advancing left) u (row tk tv)) c (nodes ks ls k) (Node (nodeId left) (o .cursor) k) ks ls
+  unfolding within advancing advanced
+  advance-none x =
+      answers (at-here _ then reads _ (optioned d tv) then picked _ _ false (negated (o .found) x))
+
+  module _ (x : not (o .found) ≡ false) {r₁ : Parsed} {ks₁ ls₁ : List ℕ}
+      (g : Gives (expression columns (row tk tv) u) (o .cursor .0) (nodes ks ls k) r₁ ks₁ ls₁) where
+    pub advance-stopped :
+        {y : ℕ} {a e p : TokenId} {j : ℕ} → r₁ ≡ Refused y a e p j →
+        Gives (within (advancing left) u (row tk tv)) c (nodes ks ls k) r₁ ks₁ ls₁
+    unfolding within advancing advanced
+    advance-stopped q =
+        hands-on _ (at-here _ then reads _ (optioned d tv) then picked _ _ true (negated (o .found) x)) (told g q)
+
+    pub advance-read :
+        {n : NodeId} {p : TokenId} {j : ℕ} → r₁ ≡ Node n p j → {r : Parsed} {ks' ls' : List ℕ} →
+        Gives (binary columns c BinaryOp.AdvancePointer left (n .0)) (p .0) (nodes ks₁ ls₁ j) r ks' ls' →
+        Gives (within (advancing left) u (row tk tv)) c (nodes ks ls k) r ks' ls'
+    unfolding within advancing advanced
+    advance-read q f =
+        shows
+        (at-here _ then reads _ (optioned d tv) then picked _ _ true (negated (o .found) x) then
+        reads _ (came-read plain-parsed g q)) f
+
+-- a unary, with `cast` before and `as` after it
+module _ (tk tv : List ℕ) (u c : ℕ) {o : Optional} {s : Nodes} {r₁ : Parsed} {ks₁ ls₁ : List ℕ}
+    (g : Gives (unaries u (row tk tv)) (o .cursor .0) s r₁ ks₁ ls₁) where
+  bare-read : Casting tk true c o → Gives (factors true u (row tk tv)) c s r₁ ks₁ ls₁
+  unfolding factors
+  bare-read d = let e : o .cursor .0 ≡ c = rw (d .alone refl) refl in rw e at g
+
+  pub singular-stopped :
+      (bare : Bool) → Casting tk bare c o → {x : ℕ} {a e p : TokenId} {k : ℕ} → r₁ ≡ Refused x a e p k →
+      Gives (factors bare u (row tk tv)) c s r₁ ks₁ ls₁
+  unfolding factors singular unaries
+  singular-stopped true d q = bare-read d
+  singular-stopped false d q =
+      hands-on _ (at-here _ then reads _ (optioned (d .whole refl) tv)) (told g q)
+
+  pub singular-bare :
+      {bare : Bool} → Casting tk bare c o → bare ≡ true → {n : NodeId} {p : TokenId} {k : ℕ} → r₁ ≡ Node n p k →
+      Gives (factors bare u (row tk tv)) c s (Node n p k) ks₁ ls₁
+  singular-bare d e q = rw (e, ← q) (bare-read (rw e at d))
+
+  pub singular-read :
+      {bare : Bool} → Casting tk bare c o → bare ≡ false → {n : NodeId} {p : TokenId} {k : ℕ} → r₁ ≡ Node n p k →
+      {r : Parsed} {ks ls : List ℕ} →
+      Gives (singularEnd columns (row tk tv) (type columns (row tk tv) u) (o .found) c (n .0)) (p .0)
+      (nodes ks₁ ls₁ k) r ks ls → Gives (factors bare u (row tk tv)) c s r ks ls
+  unfolding factors singular unaries
+  singular-read d e q f =
+      rw e
+      (shows
+      (at-here _ then reads _ (optioned ((rw e at d) .whole refl) tv) then reads _ (came-read plain-parsed g q)) f)
+
+-- a unary
+module _ (tk tv : List ℕ) (u c t : ℕ) (peeked : t ≡ kindIn tk c) {s : Nodes} where
+  pub size-read :
+      t ≡ BaseToken.PipeForType → {r : Parsed} {ks ls : List ℕ} →
+      Gives (sizeOf columns (row tk tv) (type columns (row tk tv) u)) c s r ks ls →
+      Gives (unaries u (row tk tv)) c s r ks ls
+  unfolding unaries unary choose
+  size-read e f = shows (peeks _ _ (sym e ∙ peeked)) f
+
+  module _ (n : t ≡ BaseToken.PipeForType → ⊥) where
+    unary-on : Onto (unaries u (row tk tv)) c s (Operated tk tv u c t) (prefixEnd t c) s
+    unary-on = by-pipe (eqb t BaseToken.Pipe) refl
+      where
+        no : {key : ℕ} → eqb t key ≡ false → t ≡ key → ⊥
+        no {key} e = eqb-false t key e
+
+        by-minus :
+            (t ≡ BaseToken.Pipe → ⊥) → (t ≡ BaseToken.Exclamation → ⊥) → (b : Bool) → eqb t BaseToken.Minus ≡ b →
+            Onto (unaries u (row tk tv)) c s (Operated tk tv u c t) (prefixEnd t c) s
+        by-minus h h' true e = operator tk tv u c t peeked negative (eqb-true t _ e)
+        by-minus h h' false e = alone tk tv u c t peeked n (((tt, h), h'), no e)
+
+        by-exclamation :
+            (t ≡ BaseToken.Pipe → ⊥) → (b : Bool) → eqb t BaseToken.Exclamation ≡ b →
+            Onto (unaries u (row tk tv)) c s (Operated tk tv u c t) (prefixEnd t c) s
+        by-exclamation h true e = operator tk tv u c t peeked complement (eqb-true t _ e)
+        by-exclamation h false e = by-minus h (no e) (eqb t BaseToken.Minus) refl
+
+        by-pipe :
+            (b : Bool) → eqb t BaseToken.Pipe ≡ b →
+            Onto (unaries u (row tk tv)) c s (Operated tk tv u c t) (prefixEnd t c) s
+        by-pipe true e = piped tk tv u c t peeked (eqb-true t _ e)
+        by-pipe false e = by-exclamation (no e) (eqb t BaseToken.Exclamation) refl
+
+    module _ {from : TokenId} (w : from .0 ≡ prefixEnd t c) {r₁ : Parsed} {ks₁ ls₁ : List ℕ}
+        (g : Gives (within (primaryOr (eqb t BaseToken.Pipe)) u (row tk tv)) (from .0) s r₁ ks₁ ls₁) where
+      pub unary-stopped :
+          {x : ℕ} {a e p : TokenId} {k : ℕ} → r₁ ≡ Refused x a e p k → Gives (unaries u (row tk tv)) c s r₁ ks₁ ls₁
+      unary-stopped q = hands-on _ unary-on (told (rw w at g) q)
+
+      pub unary-read :
+          {m : NodeId} {p : TokenId} {k : ℕ} → r₁ ≡ Node m p k → {r : Parsed} {ks ls : List ℕ} →
+          Untyped parsed (unaryEnd t c (m .0)) tk (p .0) (nodes ks₁ ls₁ k) r ks ls →
+          Gives (unaries u (row tk tv)) c s r ks ls
+      unary-read q f = shows (unary-on then reads _ (came-read plain-parsed (rw w at g) q)) (f .run tv)
+
+-- an item of a list, or its end
+module _ (tk tv : List ℕ) (u closing c : ℕ) (l : ActiveList) (items : ℕ) {k : ℕ} {ks ls : List ℕ} {o : Optional}
+    (d : Optionally tk closing c o) where
+  pub item-none :
+      o .found ≡ true →
+      As turned (listItems closing (ends l, items) u (row tk tv)) c (nodes ks ls k) (Last l items (o .cursor) k) ks ls
+  unfolding listItems listItem
+  item-none x =
+      let g : As turned (listItems closing (ends l, items) u (row tk tv)) c (nodes ks ls k) _ ks ls =
+      answers (reads _ (optioned d tv) then picked _ _ true x) in
+      rw (active-ends l) at g
+
+  module _ (x : o .found ≡ false) where
+    pub item-field :
+        closing ≡ BaseToken.BraceRight → {r : Turn} {ks' ls' : List ℕ} →
+        As turned (fields (ends l, items) u (row tk tv)) (o .cursor .0) (nodes ks ls k) r ks' ls' →
+        As turned (listItems closing (ends l, items) u (row tk tv)) c (nodes ks ls k) r ks' ls'
+    unfolding listItems listItem fields
+    item-field e f =
+        shows (reads _ (optioned d tv) then picked _ _ false x) (rw e f)
+
+    module _ (h : closing ≡ BaseToken.BraceRight → ⊥) {r₁ : Parsed} {ks₁ ls₁ : List ℕ}
+        (g : Gives (expression columns (row tk tv) u) (o .cursor .0) (nodes ks ls k) r₁ ks₁ ls₁) where
+      pub item-stopped :
+          {y : ℕ} {a e p : TokenId} {j : ℕ} → r₁ ≡ Refused y a e p j →
+          As turned (listItems closing (ends l, items) u (row tk tv)) c (nodes ks ls k) (Stopped r₁) ks₁ ls₁
+      unfolding listItems listItem
+      item-stopped q =
+          rw (ne-eqb _ _ h) (hands-on _ (reads _ (optioned d tv) then picked _ _ false x) (told g q))
+
+      pub item-read :
+          {n : NodeId} {p : TokenId} {j : ℕ} → r₁ ≡ Node n p j → {r : Turn} {ks' ls' : List ℕ} →
+          Untyped turned (ending closing (ends l, items) (n .0)) tk (p .0) (nodes ks₁ ls₁ j) r ks' ls' →
+          As turned (listItems closing (ends l, items) u (row tk tv)) c (nodes ks ls k) r ks' ls'
+      unfolding listItems listItem ending
+      item-read q f =
+          rw (ne-eqb _ _ h)
+          (shows
+          (reads _ (optioned d tv) then picked _ _ false x then reads _ (came-read plain-parsed g q)) (f .run tv))
+
+-- a field, and what stands after it
+module _ (tk tv : List ℕ) (u c : ℕ) (l : ActiveList) (items : ℕ) {k : ℕ} {ks ls : List ℕ} {o : Consumed}
+    (g : Quiet consumed (consuming BaseToken.Identifier) tk c k o) where
+  pub field-unnamed :
+      {r : Parsed} → o ≡ Wrong r →
+      As turned (fields (ends l, items) u (row tk tv)) c (nodes ks ls k) (Stopped r) ks ls
+  unfolding fields field consuming
+  field-unnamed w =
+      hands-on _ (first _ (at-here _) then regroup _ _ _ _ _) (held holding-consumed (g .run tv ks ls) w)
+
+  module _ {p : TokenId} {j : ℕ} (q : o ≡ Next p j) {v : Optional} (d : Optionally tk BaseToken.Colon (p .0) v) where
+    field-on :
+        (b : Bool) → v .found ≡ b →
+        Onto (fields (ends l, items) u (row tk tv)) c (nodes ks ls k)
+        (pick b (expression columns (row tk tv) u) (nameAlone columns c) >>= λ e.
+        fieldEnd (ends l, items) c e (row tk tv)) (v .cursor .0) (nodes ks ls j)
+    unfolding fields field consuming fieldEnd
+    field-on b e =
+        first _
+        (at-here _ then reads _ (came-read (holding-consumed .plain) (g .run tv ks ls) q) then
+        reads _ (optioned d tv) then first _ (picked _ _ b e)) then regroup _ _ _ _ _
+
+    pub field-short :
+        not (v .found) ≡ true → {r : Turn} {ks' ls' : List ℕ} →
+        Untyped turned (shorthandEnd (ends l, items) c) tk (v .cursor .0) (nodes ks ls j) r ks' ls' →
+        As turned (fields (ends l, items) u (row tk tv)) c (nodes ks ls k) r ks' ls'
+    unfolding shorthandEnd
+    field-short x f = shows (field-on false (negated (v .found) x)) (f .run tv)
+
+    module _ (x : not (v .found) ≡ false) {r₁ : Parsed} {ks₁ ls₁ : List ℕ}
+        (f : Gives (expression columns (row tk tv) u) (v .cursor .0) (nodes ks ls j) r₁ ks₁ ls₁) where
+      pub field-stopped :
+          {y : ℕ} {a e b : TokenId} {i : ℕ} → r₁ ≡ Refused y a e b i →
+          As turned (fields (ends l, items) u (row tk tv)) c (nodes ks ls k) (Stopped r₁) ks₁ ls₁
+      field-stopped w = hands-on _ (field-on true (negated (v .found) x)) (told f w)
+
+      pub field-read :
+          {n : NodeId} {b : TokenId} {i : ℕ} → r₁ ≡ Node n b i → {r : Turn} {ks' ls' : List ℕ} →
+          Untyped turned (fieldEnd (ends l, items) c (n .0)) tk (b .0) (nodes ks₁ ls₁ i) r ks' ls' →
+          As turned (fields (ends l, items) u (row tk tv)) c (nodes ks ls k) r ks' ls'
+      field-read w h =
+          shows (field-on true (negated (v .found) x) then reads _ (came-read plain-parsed f w)) (h .run tv)

@@ -1,0 +1,5 @@
+pub mod Bounds
+pub mod Laws
+pub mod Operands
+pub mod Items
+pub mod Steps

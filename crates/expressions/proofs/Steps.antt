@@ -1,0 +1,207 @@
+-- The steps of a reference: what their loop keeps between two rounds, and a law for each return.
+use mathlib.Core.Path.{_≡_, refl, sym, _∙_, ap}
+use mathlib.Core.Bool.{Bool, true, false}
+use mathlib.Core.List.{List, [], _∷_}
+use mathlib.Core.Option.{Option, none}
+use Prim.Native.Nat.{ℕ, suc, _+_, _-_, _≤_, _<_}
+use native.Mathlib.Omega.{arith}
+use lib.ListN.{length}
+use Rattle.codes.specs.declared.Parsed.{Parsed}
+use Rattle.codes.specs.declared.Parsed.the-variants.{Node, Refused}
+use Rattle.codes.specs.declared.NodeId.{NodeId}
+use Rattle.codes.specs.declared.TokenId.{TokenId}
+use Rattle.codes.specs.Answer.{As, Gives, Untyped, Sized, nodes, token, row, refusal}
+use Rattle.codes.proofs.Onto.{Onto, _then_, stays, first, reads, regroup, at-here, answers, declines, shows, told, held}
+use Rattle.codes.proofs.Onto.{stops, hands-on, came-read, plain-parsed, Rest, split, sized-after}
+use Rattle.codes.proofs.Loops.{round, round-again, round-last, heldIn, same-held}
+use Rattle.nodes.specs.declared.ActiveList.{ActiveList}
+use Rattle.nodes.specs.Answer.{Slots, ends, active, past}
+use Rattle.nodes.proofs.Laws.{active-ends}
+use Rattle.nodes.proofs.Bounds.{slots}
+use Rattle.tokens.specs.Answer.{kindIn}
+use Rattle.tokens.proofs.Laws.{there, not-there, apart}
+use Rattle.references.specs.declared.Stepped.{Stepped}
+use Rattle.references.specs.declared.Stepped.the-variants.{More, Last, Refused as Stopped}
+use Rattle.references.specs.Answer.{stepped, elementing, membering, derefEnd}
+use Rattle.references.proofs.Laws.{holding-stepped}
+use Rattle.references.proofs.Bounds.{step-fits}
+use Rattle.expressions.specs.Answer.{within, dereferring, stepping}
+use Rattle.rules.specs.Codes.{pick}
+use Rattle.rules.specs.Codes.BaseToken as BaseToken
+use Rattle.rules.specs.Codes.Limit as Limit
+use Rattle.rules.specs.Codes.Refusal as Refusal
+use Rattle.rules.specs.Reading.{Rule, Row, Outcome, Step, done, again, pure, repeat, _>>=_, optional}
+use Rattle.rules.specs.Columns.{Nodes, Ends, columns}
+use Rattle.rules.specs.Expressions as Rules
+use Rattle.rules.specs.Expressions.{expression, step, steps, exceeded, elementEnd, member}
+use Rattle.rules.proofs.Forward.{Round}
+use Rattle.rules.proofs.Demand.{below}
+use Rattle.rules.proofs.Moves.{expression-moves, step-round}
+
+-- a step, or none, by the token that stands there
+module _ (tk tv : List ℕ) (u c t : ℕ) (peeked : t ≡ kindIn tk c) (l : ActiveList) {k : ℕ} {ks ls : List ℕ} where
+  module _ (e : t ≡ BaseToken.BracketLeft) {r₁ : Parsed} {ks₁ ls₁ : List ℕ}
+      (g : Gives (expression columns (row tk tv) u) (c + 1) (nodes ks ls k) r₁ ks₁ ls₁) where
+    pub element-stopped :
+        {x : ℕ} {a b p : TokenId} {j : ℕ} → r₁ ≡ Refused x a b p j →
+        As stepped (stepping (ends l) u (row tk tv)) c (nodes ks ls k) (Stopped r₁) ks₁ ls₁
+    unfolding stepping step
+    element-stopped q = hands-on _ (reads _ (there tk c t peeked tv _ e)) (told g q)
+
+    pub element-read :
+        {n : NodeId} {p : TokenId} {j : ℕ} → r₁ ≡ Node n p j → {r : Stepped} {ks₂ ls₂ : List ℕ} →
+        Untyped stepped (elementing (ends l) (n .0)) tk (p .0) (nodes ks₁ ls₁ j) r ks₂ ls₂ →
+        As stepped (stepping (ends l) u (row tk tv)) c (nodes ks ls k) r ks₂ ls₂
+    unfolding stepping step elementing
+    element-read q d =
+        shows (reads _ (there tk c t peeked tv _ e) then reads _ (came-read plain-parsed g q)) (d .run tv)
+
+  pub member-read :
+      t ≡ BaseToken.Dot → {r : Stepped} {ks₁ ls₁ : List ℕ} →
+      Untyped stepped (membering (ends l)) tk (c + 1) (nodes ks ls k) r ks₁ ls₁ →
+      As stepped (stepping (ends l) u (row tk tv)) c (nodes ks ls k) r ks₁ ls₁
+  unfolding stepping step membering
+  member-read e d =
+      shows
+      (reads _ (not-there tk c t peeked tv _ (apart t _ _ refl e)) then reads _ (there tk c t peeked tv _ e))
+      (d .run tv)
+
+  pub step-none :
+      Rest t (Unit {0}) (BaseToken.BracketLeft ∷ BaseToken.Dot ∷ []) →
+      As stepped (stepping (ends l) u (row tk tv)) c (nodes ks ls k) (Last l (token c) k) ks ls
+  unfolding stepping step
+  step-none h =
+      let g : As stepped (stepping (ends l) u (row tk tv)) c (nodes ks ls k) _ ks ls =
+      answers
+      (reads _ (not-there tk c t peeked tv _ (h .0 .1)) then reads _ (not-there tk c t peeked tv _ (h .1))) in
+      rw (active-ends l) at g
+
+-- a step of the code is that of the rules
+more-same :
+    {r : Stepped} {m : ActiveList} {p : TokenId} {j : ℕ} → r ≡ More m p j → r ≡ More (active (ends m)) p j
+more-same {m = m} {p = p} {j = j} q = q ∙ ap (λ (x : ActiveList). More x p j) (sym (active-ends m))
+
+last-same :
+    {r : Stepped} {m : ActiveList} {p : TokenId} {j : ℕ} → r ≡ Last m p j → r ≡ Last (active (ends m)) p j
+last-same {m = m} {p = p} {j = j} q = q ∙ ap (λ (x : ActiveList). Last x p j) (sym (active-ends m))
+
+-- after a step, or none: the list's end is among the nodes
+stepped-fits :
+    (at : Row) (expr : Rule Nodes ℕ) (l : Option Ends) {c : ℕ} {s : Nodes} {b : Step (Option Ends) (Option Ends)}
+    {c' : ℕ} {s' : Nodes} → Onto (step columns at expr l) c s (pure b) c' s' → past (active l) ≤ s .count →
+    past (active (heldIn b)) ≤ s' .count
+unfolding step optional elementEnd member
+stepped-fits at expr l {s = s} {b = b} {c' = c'} {s' = s'} e h =
+    let w = split e in
+    let x : s .count ≡ w .state .count = ap (λ (o : Outcome Nodes Bool). o .state .count) (w .one .same) in
+    by-bracket (w .value) (w .two) (omega arith)
+  where
+    by-dot :
+        (v : Bool) {p : ℕ} {t : Nodes} → Onto (pick v (member columns at l) (pure (done l))) p t (pure b) c' s' →
+        past (active l) ≤ t .count → past (active (heldIn b)) ≤ s' .count
+    by-dot true e h = step-fits at l _ (split (split (split e .two) .two) .two)
+    by-dot false {p} e h =
+        let (y, z) = same-held (done l) b p c' e in
+        let v : past (active l) ≡ past (active (heldIn b)) = ap (λ (x : Option Ends). past (active x)) y in
+        omega arith
+
+    by-bracket :
+        (v : Bool) {p : ℕ} {t : Nodes} →
+        Onto (pick v (expr >>= λ i. elementEnd columns at l i)
+        (optional at BaseToken.Dot >>= λ dot. pick dot (member columns at l) (pure (done l)))) p t (pure b) c' s' →
+        past (active l) ≤ t .count → past (active (heldIn b)) ≤ s' .count
+    by-bracket true e h = step-fits at l _ (split (split e .two) .two)
+    by-bracket false {p} {t} e h =
+        let w = split e in
+        let x : t .count ≡ w .state .count = ap (λ (o : Outcome Nodes Bool). o .state .count) (w .one .same) in
+        by-dot (w .value) (w .two) (omega arith)
+
+module _ {tk tv ns ls : List ℕ} (u c k : ℕ) (l : ActiveList) {r : Stepped} {ns' ls' : List ℕ}
+    (g : As stepped (stepping (ends l) u (row tk tv)) c (nodes ns ls k) r ns' ls') (z : Sized tk tv ns ls c k)
+    (h : past l ≤ k) where
+  -- what the rules read is m
+  step-after :
+      (b : Step (Option Ends) (Option Ends)) {p j : ℕ} → r ≡ stepped .read b p j →
+      Sized tk tv ns' ls' p j × Round 0 c b p × (past (active (heldIn b)) ≤ j)
+  unfolding stepping
+  step-after b q =
+      let (a, e) =
+      sized-after z (holding-stepped .plain)
+      (step-round (below (row tk tv)) (omega arith) (expression-moves (below (row tk tv)) (omega arith) u) (ends l) c)
+      g {a = b} q in (
+        a,
+        e,
+        stepped-fits (row tk tv) _ (ends l) (came-read (holding-stepped .plain) g {a = b} q) (rw (active-ends l) h),
+      )
+
+  module _ {m : ActiveList} {p : TokenId} {j : ℕ} where
+    pub more-sized : r ≡ More m p j → Sized tk tv ns' ls' (p .0) j
+    more-sized q = step-after (again (ends m)) (more-same q) .0
+
+    pub more-fits : r ≡ More m p j → past m ≤ j
+    more-fits q = let (a, b, e) = step-after (again (ends m)) (more-same q) in rw (active-ends m) at e
+
+    pub last-slots : r ≡ Last m p j → Slots ns' ls' j
+    last-slots q = slots (step-after (done (ends m)) (last-same q) .0)
+
+    pub last-fits : r ≡ Last m p j → past m ≤ j
+    last-fits q = let (a, b, e) = step-after (done (ends m)) (last-same q) in rw (active-ends m) at e
+
+-- Between two steps: what is left of the reference, of whose steps so many were read.
+abbrev pub Steps : List ℕ → List ℕ → ℕ → ℕ → ℕ → ℕ → ℕ → Nodes → ℕ → ActiveList → ℕ → Nodes → Type 0
+Steps tk tv u start depth name c₀ s₀ n l c s =
+    Onto (within (dereferring start depth name) u (row tk tv)) c₀ s₀
+    (repeat (step columns (row tk tv) (expression columns (row tk tv) u)) (exceeded columns c₀) (Limit.ReferenceDepth - n)
+    (ends l) >>= λ m. derefEnd m start depth name) c s
+
+pub first-step :
+    (tk tv : List ℕ) (u start depth name c : ℕ) (s : Nodes) (l : ActiveList) → ends l ≡ none →
+    Steps tk tv u start depth name c s 0 l c s
+unfolding within dereferring Rules.stepped steps derefEnd
+first-step tk tv u start depth name c s l q = rw q (first _ (at-here _) then regroup _ _ _ _ _)
+
+module _ (tk tv : List ℕ) (u start depth name c₀ : ℕ) {s₀ : Nodes} (n : ℕ) (l : ActiveList) (c k : ℕ) {ks ls : List ℕ}
+    (h : Steps tk tv u start depth name c₀ s₀ n l c (nodes ks ls k)) where
+  pub steps-exceeded :
+      Limit.ReferenceDepth ≤ n → {r : Parsed} → r ≡ refusal Refusal.MaximumParseDepthExceeded c₀ c c k →
+      Gives (within (dereferring start depth name) u (row tk tv)) c₀ s₀ r ks ls
+  unfolding repeat exceeded
+  steps-exceeded x e =
+      let y : Limit.ReferenceDepth - n ≡ 0 = omega arith in
+      rw e (declines (rw y at h then stops _ (at-here _)))
+
+  module _ (x : n < Limit.ReferenceDepth) where
+    left : Limit.ReferenceDepth - n ≡ suc (Limit.ReferenceDepth - (n + 1))
+    left = omega arith
+
+    going :
+        Onto (within (dereferring start depth name) u (row tk tv)) c₀ s₀
+        (repeat (step columns (row tk tv) (expression columns (row tk tv) u)) (exceeded columns c₀)
+        (suc (Limit.ReferenceDepth - (n + 1))) (ends l) >>= λ m. derefEnd m start depth name) c (nodes ks ls k)
+    going = rw left at h
+
+    module _ {z : Stepped} {ks₁ ls₁ : List ℕ}
+        (g : As stepped (stepping (ends l) u (row tk tv)) c (nodes ks ls k) z ks₁ ls₁) where
+      pub steps-refused :
+          {r : Parsed} → z ≡ Stopped r → Gives (within (dereferring start depth name) u (row tk tv)) c₀ s₀ r ks₁ ls₁
+      unfolding stepping
+      steps-refused w =
+          hands-on _ (going then first _ (round _ _ _ stays) then regroup _ _ _ _ _) (held holding-stepped g w)
+
+      pub steps-read :
+          {m : ActiveList} {p : TokenId} {j : ℕ} → z ≡ Last m p j → {r : Parsed} {ks₂ ls₂ : List ℕ} →
+          Gives (derefEnd (ends m) start depth name) (p .0) (nodes ks₁ ls₁ j) r ks₂ ls₂ →
+          Gives (within (dereferring start depth name) u (row tk tv)) c₀ s₀ r ks₂ ls₂
+      unfolding stepping
+      steps-read {m} w d =
+          shows
+          (going then reads _ (round-last _ _ _
+          (came-read (holding-stepped .plain) g {a = done (ends m)} (last-same w)))) d
+
+      pub next-step :
+          {m : ActiveList} {p : TokenId} {j : ℕ} → z ≡ More m p j →
+          Steps tk tv u start depth name c₀ s₀ (n + 1) m (p .0) (nodes ks₁ ls₁ j)
+      unfolding stepping
+      next-step {m} w =
+          going then first _ (round-again _ _ _
+          (came-read (holding-stepped .plain) g {a = again (ends m)} (more-same w)))

@@ -1,0 +1,790 @@
+// Expressions and references, after parse_expression to parse_deref_steps_list of the Rust's parser.rs: the readers that
+// call each other. In each, `unused` is the nesting that is left for what is inside.
+ghost use mathlib.Core.Path.{_≡_};
+ghost use Prim.Native.Nat.{_+_, _≤_};
+ghost use lib.ListN.{length};
+ghost use Rattle.rules.specs.Codes.Limit as Most;
+ghost use Rattle.rules.specs.Columns.{columns};
+ghost use Rattle.rules.specs.Expressions.{expression};
+ghost use Rattle.codes.specs.Answer.{As, Gives, Untyped, Sized, parsed, row, nodes};
+ghost use Rattle.nodes.specs.Answer.{Slots, ends, past};
+ghost use Rattle.references.specs.Answer.{stepped};
+ghost use Rattle.lists.specs.Answer.{ownerOf, turned};
+ghost use Rattle.openings.specs.Answer.{primaryOr, listed, referred, grouped};
+ghost use Rattle.expressions.specs.Answer.{prefixEnd, unaryEnd, sums, operand, factors, unaries, within, advancing, dereferring, listItems, fields, stepping};
+use casts::finish_singular;
+use casts::optional_cast;
+use casts::parse_size_of;
+use codes::BaseToken;
+use codes::BinaryOp;
+use codes::Limit;
+use codes::NodeId;
+use codes::ParseNode;
+use codes::Parsed;
+use codes::Refusal;
+use codes::TokenId;
+use codes::UnaryOp;
+use lists::Owner;
+use lists::Turn;
+use lists::closing_of;
+use lists::finish_field;
+use lists::finish_item;
+use lists::finish_list;
+use lists::finish_shorthand;
+use literals::parse_literal;
+use nodes::ActiveList;
+use nodes::start_list;
+use openings::Opening;
+use openings::parse_opening;
+use operators::Joint;
+use operators::Pending;
+use operators::join_factor;
+use operators::join_term;
+use operators::push_binary;
+use operators::push_prefix;
+use operators::takes_unary;
+use references::Stepped;
+use references::exceeded;
+use references::finish_element;
+use references::parse_member;
+use references::push_closed;
+use references::push_deref;
+use references::push_name;
+use tokens::Consumed;
+use tokens::consume;
+use tokens::consume_optional;
+use tokens::peek;
+
+// The place of the operand after a `!`, `-` or `|`, if the token here is one.
+fn after_prefix(cursor: TokenId, token: u8) -> TokenId
+    requires { ⌜ cursor .0 ≤ Most.Tokens ⌝ }
+    ensures { λ r. ⌜ r .0 ≡ prefixEnd token (cursor .0) ⌝ }
+{
+    let at = cursor.0;
+    let next = TokenId(at + 1);
+    match token {
+        BaseToken::Pipe => next,
+        BaseToken::Exclamation => next,
+        BaseToken::Minus => next,
+        _ => cursor,
+    }
+}
+
+// After the operand of a unary: the nodes of the `!` or `-` at `at`, or the closing `|` and its node, by the token there.
+fn finish_unary(
+    kinds: &[u8],
+    node_kinds: &mut [u8],
+    node_loads: &mut [u32],
+    cursor: TokenId,
+    count: u32,
+    root: NodeId,
+    token: u8,
+    at: TokenId,
+) -> Parsed
+    requires { ⌜ (cursor .0 ≤ Most.Tokens + 1) × Slots (now «node_kinds») (now «node_loads») count ⌝ }
+    ensures { λ r. ⌜ Untyped parsed (unaryEnd token (at .0) (root .0)) (now (kinds .entry)) (cursor .0) (nodes (now («node_kinds» .entry)) (now («node_loads» .entry)) count) r (now («node_kinds» .exit)) (now («node_loads» .exit)) ⌝ }
+{
+    match token {
+        BaseToken::Pipe => {
+            push_closed(
+                kinds,
+                node_kinds,
+                node_loads,
+                cursor,
+                count,
+                BaseToken::Pipe,
+                ParseNode::LengthOf,
+                root,
+            )
+        }
+        BaseToken::Exclamation => {
+            let op = UnaryOp::BitwiseComplement;
+            push_prefix(node_kinds, node_loads, cursor, count, op, at, root)
+        }
+        BaseToken::Minus => {
+            let op = UnaryOp::Negative;
+            push_prefix(node_kinds, node_loads, cursor, count, op, at, root)
+        }
+        _ => Parsed::Node {
+            root,
+            cursor,
+            count,
+        },
+    }
+}
+
+// An expression. Rust: parse_expression.
+pub fn expression(
+    kinds: &[u8],
+    types: &[u8],
+    node_kinds: &mut [u8],
+    node_loads: &mut [u32],
+    cursor: TokenId,
+    count: u32,
+    unused: u32,
+) -> Parsed
+    requires { ⌜ Sized (now kinds) (now types) (now «node_kinds») (now «node_loads») (cursor .0) count ⌝ }
+    ensures { λ r. ⌜ Gives (expression columns (row (now (kinds .entry)) (now (types .entry))) unused) (cursor .0) (nodes (now («node_kinds» .entry)) (now («node_loads» .entry)) count) r (now («node_kinds» .exit)) (now («node_loads» .exit)) ⌝ }
+{
+    if unused == 0 {
+        return Parsed::Refused {
+            number: Refusal::NestingExceeded,
+            start: cursor,
+            end: cursor,
+            cursor,
+            count,
+        };
+    }
+    let left = unused - 1;
+    addition(kinds, types, node_kinds, node_loads, cursor, count, left)
+}
+
+// Products joined by `+` or `-`, and what may follow them. Rust: parse_addition, parse_rest_of_bitwise_expression and
+// parse_rest_of_bitshift_operation.
+fn addition(
+    kinds: &[u8],
+    types: &[u8],
+    node_kinds: &mut [u8],
+    node_loads: &mut [u32],
+    cursor: TokenId,
+    count: u32,
+    unused: u32,
+) -> Parsed
+    requires { ⌜ Sized (now kinds) (now types) (now «node_kinds») (now «node_loads») (cursor .0) count ⌝ }
+    ensures { λ r. ⌜ Gives (sums unused (row (now (kinds .entry)) (now (types .entry)))) (cursor .0) (nodes (now («node_kinds» .entry)) (now («node_loads» .entry)) count) r (now («node_kinds» .exit)) (now («node_loads» .exit)) ⌝ }
+{
+    let mut pending = Pending::First;
+    let mut place = cursor.0;
+    let mut used = count;
+    loop {
+        let at = TokenId(place);
+        let bare = takes_unary(pending);
+        let right = multiplication(kinds, types, node_kinds, node_loads, at, used, unused, bare);
+        let Parsed::Node {
+            root,
+            cursor: after,
+            count: more,
+        } = right
+        else {
+            return right;
+        };
+        match join_term(kinds, node_kinds, node_loads, after, more, root, pending) {
+            Joint::More {
+                pending: next,
+                cursor: from,
+                count: grown,
+            } => {
+                pending = next;
+                place = from.0;
+                used = grown;
+            }
+            Joint::Last {
+                root: sum,
+                cursor: end,
+                count: grown,
+            } => {
+                return Parsed::Node {
+                    root: sum,
+                    cursor: end,
+                    count: grown,
+                };
+            }
+            Joint::Refused { refusal } => {
+                return refusal;
+            }
+        }
+    }
+}
+
+// Singulars joined by `*`, `/` or `%`; or, if bare, a unary only. Rust: parse_multiplication.
+fn multiplication(
+    kinds: &[u8],
+    types: &[u8],
+    node_kinds: &mut [u8],
+    node_loads: &mut [u32],
+    cursor: TokenId,
+    count: u32,
+    unused: u32,
+    bare: bool,
+) -> Parsed
+    requires { ⌜ Sized (now kinds) (now types) (now «node_kinds») (now «node_loads») (cursor .0) count ⌝ }
+    ensures { λ r. ⌜ Gives (operand bare unused (row (now (kinds .entry)) (now (types .entry)))) (cursor .0) (nodes (now («node_kinds» .entry)) (now («node_loads» .entry)) count) r (now («node_kinds» .exit)) (now («node_loads» .exit)) ⌝ }
+{
+    let mut pending = Pending::First;
+    let mut place = cursor.0;
+    let mut used = count;
+    loop {
+        let at = TokenId(place);
+        let right = singular(kinds, types, node_kinds, node_loads, at, used, unused, bare);
+        let Parsed::Node {
+            root,
+            cursor: after,
+            count: more,
+        } = right
+        else {
+            return right;
+        };
+        if bare {
+            return right;
+        }
+        match join_factor(kinds, node_kinds, node_loads, after, more, root, pending) {
+            Joint::More {
+                pending: next,
+                cursor: from,
+                count: grown,
+            } => {
+                pending = next;
+                place = from.0;
+                used = grown;
+            }
+            Joint::Last {
+                root: product,
+                cursor: end,
+                count: grown,
+            } => {
+                return Parsed::Node {
+                    root: product,
+                    cursor: end,
+                    count: grown,
+                };
+            }
+            Joint::Refused { refusal } => {
+                return refusal;
+            }
+        }
+    }
+}
+
+// A unary, with `cast` before and `as` after it; or, if bare, a unary only.
+fn singular(
+    kinds: &[u8],
+    types: &[u8],
+    node_kinds: &mut [u8],
+    node_loads: &mut [u32],
+    cursor: TokenId,
+    count: u32,
+    unused: u32,
+    bare: bool,
+) -> Parsed
+    requires { ⌜ Sized (now kinds) (now types) (now «node_kinds») (now «node_loads») (cursor .0) count ⌝ }
+    ensures { λ r. ⌜ Gives (factors bare unused (row (now (kinds .entry)) (now (types .entry)))) (cursor .0) (nodes (now («node_kinds» .entry)) (now («node_loads» .entry)) count) r (now («node_kinds» .exit)) (now («node_loads» .exit)) ⌝ }
+{
+    let cast = optional_cast(kinds, cursor, bare);
+    let from = cast.cursor;
+    let found = cast.found;
+    let operand = unary(kinds, types, node_kinds, node_loads, from, count, unused);
+    let Parsed::Node {
+        root,
+        cursor: after,
+        count: used,
+    } = operand
+    else {
+        return operand;
+    };
+    if bare {
+        return operand;
+    }
+    finish_singular(
+        kinds,
+        types,
+        node_kinds,
+        node_loads,
+        after,
+        used,
+        unused,
+        root,
+        found,
+        cursor,
+    )
+}
+
+// A size, a length, or a primary with `!` or `-` before it. Rust: parse_unary_expression.
+fn unary(
+    kinds: &[u8],
+    types: &[u8],
+    node_kinds: &mut [u8],
+    node_loads: &mut [u32],
+    cursor: TokenId,
+    count: u32,
+    unused: u32,
+) -> Parsed
+    requires { ⌜ Sized (now kinds) (now types) (now «node_kinds») (now «node_loads») (cursor .0) count ⌝ }
+    ensures { λ r. ⌜ Gives (unaries unused (row (now (kinds .entry)) (now (types .entry)))) (cursor .0) (nodes (now («node_kinds» .entry)) (now («node_loads» .entry)) count) r (now («node_kinds» .exit)) (now («node_loads» .exit)) ⌝ }
+{
+    let token = peek(kinds, cursor);
+    if token == BaseToken::PipeForType {
+        return parse_size_of(kinds, types, node_kinds, node_loads, cursor, count, unused);
+    }
+    let from = after_prefix(cursor, token);
+    let piped = token == BaseToken::Pipe;
+    let operand = primary(
+        kinds,
+        types,
+        node_kinds,
+        node_loads,
+        from,
+        count,
+        unused,
+        piped,
+    );
+    let Parsed::Node {
+        root,
+        cursor: after,
+        count: used,
+    } = operand
+    else {
+        return operand;
+    };
+    finish_unary(
+        kinds,
+        node_kinds,
+        node_loads,
+        after,
+        used,
+        root,
+        token,
+        cursor,
+    )
+}
+
+// A primary; or, after a pipe, a reference.
+fn primary(
+    kinds: &[u8],
+    types: &[u8],
+    node_kinds: &mut [u8],
+    node_loads: &mut [u32],
+    cursor: TokenId,
+    count: u32,
+    unused: u32,
+    piped: bool,
+) -> Parsed
+    requires { ⌜ Sized (now kinds) (now types) (now «node_kinds») (now «node_loads») (cursor .0) count ⌝ }
+    ensures { λ r. ⌜ Gives (within (primaryOr piped) unused (row (now (kinds .entry)) (now (types .entry)))) (cursor .0) (nodes (now («node_kinds» .entry)) (now («node_loads» .entry)) count) r (now («node_kinds» .exit)) (now («node_loads» .exit)) ⌝ }
+{
+    match parse_opening(kinds, cursor, count, piped) {
+        Opening::List(owner, inside, used) => {
+            comma_list(
+                kinds,
+                types,
+                node_kinds,
+                node_loads,
+                inside,
+                used,
+                unused,
+                owner,
+            )
+        }
+        Opening::Reference(depth, name, pointer, after, used) => {
+            reference(
+                kinds,
+                types,
+                node_kinds,
+                node_loads,
+                after,
+                used,
+                unused,
+                cursor,
+                depth,
+                name,
+                pointer,
+            )
+        }
+        Opening::Name(after, used) => push_name(node_kinds, node_loads, after, used, cursor),
+        Opening::Group(inside, used) => {
+            group(kinds, types, node_kinds, node_loads, inside, used, unused)
+        }
+        Opening::Literal(token) => {
+            parse_literal(kinds, types, node_kinds, node_loads, cursor, count, token)
+        }
+        Opening::Refused(refusal) => refusal,
+    }
+}
+
+// An expression in parentheses, of which the first is taken.
+fn group(
+    kinds: &[u8],
+    types: &[u8],
+    node_kinds: &mut [u8],
+    node_loads: &mut [u32],
+    cursor: TokenId,
+    count: u32,
+    unused: u32,
+) -> Parsed
+    requires { ⌜ Sized (now kinds) (now types) (now «node_kinds») (now «node_loads») (cursor .0) count ⌝ }
+    ensures { λ r. ⌜ Gives (within grouped unused (row (now (kinds .entry)) (now (types .entry)))) (cursor .0) (nodes (now («node_kinds» .entry)) (now («node_loads» .entry)) count) r (now («node_kinds» .exit)) (now («node_loads» .exit)) ⌝ }
+{
+    let inner = expression(kinds, types, node_kinds, node_loads, cursor, count, unused);
+    let Parsed::Node {
+        root,
+        cursor: after,
+        count: used,
+    } = inner
+    else {
+        return inner;
+    };
+    push_closed(
+        kinds,
+        node_kinds,
+        node_loads,
+        after,
+        used,
+        BaseToken::ParenRight,
+        ParseNode::Parenthesized,
+        root,
+    )
+}
+
+// A name, which is taken, and its steps; after a pointer, `..` and an expression may follow.
+fn reference(
+    kinds: &[u8],
+    types: &[u8],
+    node_kinds: &mut [u8],
+    node_loads: &mut [u32],
+    cursor: TokenId,
+    count: u32,
+    unused: u32,
+    start: TokenId,
+    depth: u32,
+    name: TokenId,
+    pointer: bool,
+) -> Parsed
+    requires { ⌜ Sized (now kinds) (now types) (now «node_kinds») (now «node_loads») (cursor .0) count ⌝ }
+    ensures { λ r. ⌜ Gives (within (referred (start .0) depth (name .0) pointer) unused (row (now (kinds .entry)) (now (types .entry)))) (cursor .0) (nodes (now («node_kinds» .entry)) (now («node_loads» .entry)) count) r (now («node_kinds» .exit)) (now («node_loads» .exit)) ⌝ }
+{
+    let named = deref(
+        kinds,
+        types,
+        node_kinds,
+        node_loads,
+        cursor,
+        count,
+        unused,
+        start,
+        depth,
+        name,
+    );
+    let Parsed::Node {
+        root,
+        cursor: after,
+        count: used,
+    } = named
+    else {
+        return named;
+    };
+    if pointer {
+        advance(
+            kinds,
+            types,
+            node_kinds,
+            node_loads,
+            after,
+            used,
+            unused,
+            root,
+        )
+    } else {
+        named
+    }
+}
+
+// `..` and an expression, if they follow. Rust: parse_primary_expression.
+fn advance(
+    kinds: &[u8],
+    types: &[u8],
+    node_kinds: &mut [u8],
+    node_loads: &mut [u32],
+    cursor: TokenId,
+    count: u32,
+    unused: u32,
+    left: NodeId,
+) -> Parsed
+    requires { ⌜ Sized (now kinds) (now types) (now «node_kinds») (now «node_loads») (cursor .0) count ⌝ }
+    ensures { λ r. ⌜ Gives (within (advancing (left .0)) unused (row (now (kinds .entry)) (now (types .entry)))) (cursor .0) (nodes (now («node_kinds» .entry)) (now («node_loads» .entry)) count) r (now («node_kinds» .exit)) (now («node_loads» .exit)) ⌝ }
+{
+    let dots = consume_optional(kinds, cursor, BaseToken::Dots);
+    let from = dots.cursor;
+    if !dots.found {
+        return Parsed::Node {
+            root: left,
+            cursor: from,
+            count,
+        };
+    }
+    let offset = expression(kinds, types, node_kinds, node_loads, from, count, unused);
+    let Parsed::Node {
+        root,
+        cursor: after,
+        count: used,
+    } = offset
+    else {
+        return offset;
+    };
+    let op = BinaryOp::AdvancePointer;
+    push_binary(node_kinds, node_loads, after, used, left, op, cursor, root)
+}
+
+// A list whose opening token is taken. Rust: parse_rest_of_arguments, parse_rest_of_structural and the elements in
+// primary.
+fn comma_list(
+    kinds: &[u8],
+    types: &[u8],
+    node_kinds: &mut [u8],
+    node_loads: &mut [u32],
+    cursor: TokenId,
+    count: u32,
+    unused: u32,
+    owner: Owner,
+) -> Parsed
+    requires { ⌜ Sized (now kinds) (now types) (now «node_kinds») (now «node_loads») (cursor .0) count ⌝ }
+    ensures { λ r. ⌜ Gives (within (listed (ownerOf owner)) unused (row (now (kinds .entry)) (now (types .entry)))) (cursor .0) (nodes (now («node_kinds» .entry)) (now («node_loads» .entry)) count) r (now («node_kinds» .exit)) (now («node_loads» .exit)) ⌝ }
+{
+    let closing = closing_of(owner);
+    let mut list = start_list();
+    let mut items: u32 = 0;
+    let mut place = cursor.0;
+    let mut used = count;
+    loop {
+        let at = TokenId(place);
+        match item(
+            kinds,
+            types,
+            node_kinds,
+            node_loads,
+            at,
+            used,
+            unused,
+            list,
+            items,
+            closing,
+        ) {
+            Turn::More {
+                list: longer,
+                items: number,
+                cursor: after,
+                count: more,
+            } => {
+                list = longer;
+                items = number;
+                place = after.0;
+                used = more;
+            }
+            Turn::Last {
+                list: whole,
+                items: number,
+                cursor: after,
+                count: more,
+            } => {
+                return finish_list(node_kinds, node_loads, after, more, whole, number, owner);
+            }
+            Turn::Refused { refusal } => {
+                return refusal;
+            }
+        }
+    }
+}
+
+// An item with a comma or the closing token after it, or the closing token.
+fn item(
+    kinds: &[u8],
+    types: &[u8],
+    node_kinds: &mut [u8],
+    node_loads: &mut [u32],
+    cursor: TokenId,
+    count: u32,
+    unused: u32,
+    list: ActiveList,
+    items: u32,
+    closing: u8,
+) -> Turn
+    requires { ⌜ Sized (now kinds) (now types) (now «node_kinds») (now «node_loads») (cursor .0) count × (past list ≤ count) × (items ≤ count) ⌝ }
+    ensures { λ r. ⌜ As turned (listItems closing (ends list, items) unused (row (now (kinds .entry)) (now (types .entry)))) (cursor .0) (nodes (now («node_kinds» .entry)) (now («node_loads» .entry)) count) r (now («node_kinds» .exit)) (now («node_loads» .exit)) ⌝ }
+{
+    let end = consume_optional(kinds, cursor, closing);
+    let from = end.cursor;
+    if end.found {
+        return Turn::Last {
+            list,
+            items,
+            cursor: from,
+            count,
+        };
+    }
+    if closing == BaseToken::BraceRight {
+        return field(
+            kinds,
+            types,
+            node_kinds,
+            node_loads,
+            from,
+            count,
+            unused,
+            list,
+            items,
+        );
+    }
+    let item = expression(kinds, types, node_kinds, node_loads, from, count, unused);
+    let Parsed::Node {
+        root,
+        cursor: after,
+        count: used,
+    } = item
+    else {
+        return Turn::Refused { refusal: item };
+    };
+    finish_item(
+        kinds,
+        node_kinds,
+        node_loads,
+        after,
+        used,
+        list,
+        items,
+        closing,
+        root,
+    )
+}
+
+// A field: a name, and a colon with an expression or nothing; and what stands after it. Rust: parse_rest_of_structural.
+fn field(
+    kinds: &[u8],
+    types: &[u8],
+    node_kinds: &mut [u8],
+    node_loads: &mut [u32],
+    cursor: TokenId,
+    count: u32,
+    unused: u32,
+    list: ActiveList,
+    items: u32,
+) -> Turn
+    requires { ⌜ Sized (now kinds) (now types) (now «node_kinds») (now «node_loads») (cursor .0) count × (past list ≤ count) × (items ≤ count) ⌝ }
+    ensures { λ r. ⌜ As turned (fields (ends list, items) unused (row (now (kinds .entry)) (now (types .entry)))) (cursor .0) (nodes (now («node_kinds» .entry)) (now («node_loads» .entry)) count) r (now («node_kinds» .exit)) (now («node_loads» .exit)) ⌝ }
+{
+    match consume(kinds, cursor, count, BaseToken::Identifier) {
+        Consumed::Next {
+            cursor: after,
+            count: same,
+        } => {
+            let colon = consume_optional(kinds, after, BaseToken::Colon);
+            let from = colon.cursor;
+            if !colon.found {
+                return finish_shorthand(
+                    kinds,
+                    node_kinds,
+                    node_loads,
+                    from,
+                    same,
+                    list,
+                    items,
+                    cursor,
+                );
+            }
+            let value = expression(kinds, types, node_kinds, node_loads, from, same, unused);
+            let Parsed::Node {
+                root,
+                cursor: end,
+                count: used,
+            } = value
+            else {
+                return Turn::Refused { refusal: value };
+            };
+            finish_field(
+                kinds,
+                node_kinds,
+                node_loads,
+                end,
+                used,
+                list,
+                items,
+                cursor,
+                root,
+            )
+        }
+        Consumed::Wrong { refusal } => Turn::Refused { refusal },
+    }
+}
+
+// A reference whose name is taken: its steps and its nodes.
+fn deref(
+    kinds: &[u8],
+    types: &[u8],
+    node_kinds: &mut [u8],
+    node_loads: &mut [u32],
+    cursor: TokenId,
+    count: u32,
+    unused: u32,
+    start: TokenId,
+    depth: u32,
+    name: TokenId,
+) -> Parsed
+    requires { ⌜ Sized (now kinds) (now types) (now «node_kinds») (now «node_loads») (cursor .0) count ⌝ }
+    ensures { λ r. ⌜ Gives (within (dereferring (start .0) depth (name .0)) unused (row (now (kinds .entry)) (now (types .entry)))) (cursor .0) (nodes (now («node_kinds» .entry)) (now («node_loads» .entry)) count) r (now («node_kinds» .exit)) (now («node_loads» .exit)) ⌝ }
+{
+    let mut list = start_list();
+    let mut steps: u32 = 0;
+    let mut place = cursor.0;
+    let mut used = count;
+    while steps < Limit::ReferenceDepth {
+        let at = TokenId(place);
+        match step(kinds, types, node_kinds, node_loads, at, used, unused, list) {
+            Stepped::More {
+                list: longer,
+                cursor: after,
+                count: more,
+            } => {
+                list = longer;
+                place = after.0;
+                used = more;
+            }
+            Stepped::Last {
+                list: whole,
+                cursor: end,
+                count: more,
+            } => {
+                return push_deref(node_kinds, node_loads, end, more, whole, start, depth, name);
+            }
+            Stepped::Refused { refusal } => {
+                return refusal;
+            }
+        }
+        steps = steps + 1;
+    }
+    exceeded(TokenId(place), used, cursor)
+}
+
+// A step `[expression]` or `.name`, if one follows.
+fn step(
+    kinds: &[u8],
+    types: &[u8],
+    node_kinds: &mut [u8],
+    node_loads: &mut [u32],
+    cursor: TokenId,
+    count: u32,
+    unused: u32,
+    list: ActiveList,
+) -> Stepped
+    requires { ⌜ Sized (now kinds) (now types) (now «node_kinds») (now «node_loads») (cursor .0) count × (past list ≤ count) ⌝ }
+    ensures { λ r. ⌜ As stepped (stepping (ends list) unused (row (now (kinds .entry)) (now (types .entry)))) (cursor .0) (nodes (now («node_kinds» .entry)) (now («node_loads» .entry)) count) r (now («node_kinds» .exit)) (now («node_loads» .exit)) ⌝ }
+{
+    let at = cursor.0;
+    let next = TokenId(at + 1);
+    match peek(kinds, cursor) {
+        BaseToken::BracketLeft => {
+            let index = expression(kinds, types, node_kinds, node_loads, next, count, unused);
+            let Parsed::Node {
+                root,
+                cursor: after,
+                count: used,
+            } = index
+            else {
+                return Stepped::Refused { refusal: index };
+            };
+            finish_element(kinds, node_kinds, node_loads, after, used, list, root)
+        }
+        BaseToken::Dot => parse_member(kinds, node_kinds, node_loads, next, count, list),
+        _ => Stepped::Last {
+            list,
+            cursor,
+            count,
+        },
+    }
+}
