@@ -114,7 +114,7 @@ fn finish_unary(
 }
 
 // An expression. Rust: parse_expression.
-pub fn expression(
+pub fn parse_expression(
     kinds: &[u8],
     types: &[u8],
     node_kinds: &mut [u8],
@@ -136,12 +136,12 @@ pub fn expression(
         };
     }
     let left = unused - 1;
-    addition(kinds, types, node_kinds, node_loads, cursor, count, left)
+    parse_addition(kinds, types, node_kinds, node_loads, cursor, count, left)
 }
 
 // Products joined by `+` or `-`, and what may follow them. Rust: parse_addition, parse_rest_of_bitwise_expression and
 // parse_rest_of_bitshift_operation.
-fn addition(
+fn parse_addition(
     kinds: &[u8],
     types: &[u8],
     node_kinds: &mut [u8],
@@ -159,7 +159,7 @@ fn addition(
     loop {
         let at = TokenId(place);
         let bare = takes_unary(pending);
-        let right = multiplication(kinds, types, node_kinds, node_loads, at, used, unused, bare);
+        let right = parse_multiplication(kinds, types, node_kinds, node_loads, at, used, unused, bare);
         let Parsed::Node {
             root,
             cursor: after,
@@ -197,7 +197,7 @@ fn addition(
 }
 
 // Singulars joined by `*`, `/` or `%`; or, if bare, a unary only. Rust: parse_multiplication.
-fn multiplication(
+fn parse_multiplication(
     kinds: &[u8],
     types: &[u8],
     node_kinds: &mut [u8],
@@ -215,7 +215,7 @@ fn multiplication(
     let mut used = count;
     loop {
         let at = TokenId(place);
-        let right = singular(kinds, types, node_kinds, node_loads, at, used, unused, bare);
+        let right = parse_singular_expression(kinds, types, node_kinds, node_loads, at, used, unused, bare);
         let Parsed::Node {
             root,
             cursor: after,
@@ -256,7 +256,7 @@ fn multiplication(
 }
 
 // A unary, with `cast` before and `as` after it; or, if bare, a unary only.
-fn singular(
+fn parse_singular_expression(
     kinds: &[u8],
     types: &[u8],
     node_kinds: &mut [u8],
@@ -272,7 +272,7 @@ fn singular(
     let cast = optional_cast(kinds, cursor, bare);
     let from = cast.cursor;
     let found = cast.found;
-    let operand = unary(kinds, types, node_kinds, node_loads, from, count, unused);
+    let operand = parse_unary_expression(kinds, types, node_kinds, node_loads, from, count, unused);
     let Parsed::Node {
         root,
         cursor: after,
@@ -299,7 +299,7 @@ fn singular(
 }
 
 // A size, a length, or a primary with `!` or `-` before it. Rust: parse_unary_expression.
-fn unary(
+fn parse_unary_expression(
     kinds: &[u8],
     types: &[u8],
     node_kinds: &mut [u8],
@@ -317,7 +317,7 @@ fn unary(
     }
     let from = after_prefix(cursor, token);
     let piped = token == BaseToken::Pipe;
-    let operand = primary(
+    let operand = parse_primary_expression(
         kinds,
         types,
         node_kinds,
@@ -348,7 +348,7 @@ fn unary(
 }
 
 // A primary; or, after a pipe, a reference.
-fn primary(
+fn parse_primary_expression(
     kinds: &[u8],
     types: &[u8],
     node_kinds: &mut [u8],
@@ -363,7 +363,7 @@ fn primary(
 {
     match parse_opening(kinds, cursor, count, piped) {
         Opening::List(owner, inside, used) => {
-            comma_list(
+            parse_rest_of_list(
                 kinds,
                 types,
                 node_kinds,
@@ -375,7 +375,7 @@ fn primary(
             )
         }
         Opening::Reference(depth, name, pointer, after, used) => {
-            reference(
+            parse_reference(
                 kinds,
                 types,
                 node_kinds,
@@ -413,7 +413,7 @@ fn group(
     requires { ⌜ Sized (now kinds) (now types) (now «node_kinds») (now «node_loads») (cursor .0) count ⌝ }
     ensures { λ r. ⌜ Gives (within grouped unused (row (now (kinds .entry)) (now (types .entry)))) (cursor .0) (nodes (now («node_kinds» .entry)) (now («node_loads» .entry)) count) r (now («node_kinds» .exit)) (now («node_loads» .exit)) ⌝ }
 {
-    let inner = expression(kinds, types, node_kinds, node_loads, cursor, count, unused);
+    let inner = parse_expression(kinds, types, node_kinds, node_loads, cursor, count, unused);
     let Parsed::Node {
         root,
         cursor: after,
@@ -435,7 +435,7 @@ fn group(
 }
 
 // A name, which is taken, and its steps; after a pointer, `..` and an expression may follow.
-fn reference(
+fn parse_reference(
     kinds: &[u8],
     types: &[u8],
     node_kinds: &mut [u8],
@@ -451,7 +451,7 @@ fn reference(
     requires { ⌜ Sized (now kinds) (now types) (now «node_kinds») (now «node_loads») (cursor .0) count ⌝ }
     ensures { λ r. ⌜ Gives (within (referred (start .0) depth (name .0) pointer) unused (row (now (kinds .entry)) (now (types .entry)))) (cursor .0) (nodes (now («node_kinds» .entry)) (now («node_loads» .entry)) count) r (now («node_kinds» .exit)) (now («node_loads» .exit)) ⌝ }
 {
-    let named = deref(
+    let named = parse_deref_steps_list(
         kinds,
         types,
         node_kinds,
@@ -510,7 +510,7 @@ fn advance(
             count,
         };
     }
-    let offset = expression(kinds, types, node_kinds, node_loads, from, count, unused);
+    let offset = parse_expression(kinds, types, node_kinds, node_loads, from, count, unused);
     let Parsed::Node {
         root,
         cursor: after,
@@ -525,7 +525,7 @@ fn advance(
 
 // A list whose opening token is taken. Rust: parse_rest_of_arguments, parse_rest_of_structural and the elements in
 // primary.
-fn comma_list(
+fn parse_rest_of_list(
     kinds: &[u8],
     types: &[u8],
     node_kinds: &mut [u8],
@@ -622,7 +622,7 @@ fn item(
             items,
         );
     }
-    let item = expression(kinds, types, node_kinds, node_loads, from, count, unused);
+    let item = parse_expression(kinds, types, node_kinds, node_loads, from, count, unused);
     let Parsed::Node {
         root,
         cursor: after,
@@ -678,7 +678,7 @@ fn field(
                     cursor,
                 );
             }
-            let value = expression(kinds, types, node_kinds, node_loads, from, same, unused);
+            let value = parse_expression(kinds, types, node_kinds, node_loads, from, same, unused);
             let Parsed::Node {
                 root,
                 cursor: end,
@@ -704,7 +704,7 @@ fn field(
 }
 
 // A reference whose name is taken: its steps and its nodes.
-fn deref(
+fn parse_deref_steps_list(
     kinds: &[u8],
     types: &[u8],
     node_kinds: &mut [u8],
@@ -769,7 +769,7 @@ fn step(
     let next = TokenId(at + 1);
     match peek(kinds, cursor) {
         BaseToken::BracketLeft => {
-            let index = expression(kinds, types, node_kinds, node_loads, next, count, unused);
+            let index = parse_expression(kinds, types, node_kinds, node_loads, next, count, unused);
             let Parsed::Node {
                 root,
                 cursor: after,

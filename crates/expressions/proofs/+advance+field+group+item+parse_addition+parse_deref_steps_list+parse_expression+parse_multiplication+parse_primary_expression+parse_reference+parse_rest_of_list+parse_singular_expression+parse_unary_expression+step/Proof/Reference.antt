@@ -3,13 +3,13 @@ use Rattle.expressions.proofs.Bounds.{after-deref}
 use Rattle.expressions.proofs.Laws.{reference-stopped, reference-alone, reference-advanced}
 use Prim.Native.Nat.{ℕ}
 use Rattle.expressions.proofs.advance.Reads as advance
-use Rattle.expressions.proofs.deref.Reads as deref
-use Rattle.expressions.proofs.reference.Reads as reference
-use Rattle.expressions.proofs.+addition+advance+comma_list+deref+expression+field+group+item+multiplication+primary+reference+singular+step+unary.Lts-reference as reference-lts
-use Rattle.expressions.proofs.+addition+advance+comma_list+deref+expression+field+group+item+multiplication+primary+reference+singular+step+unary.Proof.Shared.{advance-below, deref-below, reference-at}
+use Rattle.expressions.proofs.parse_deref_steps_list.Reads as deref-steps
+use Rattle.expressions.proofs.parse_reference.Reads as reference
+use Rattle.expressions.proofs.+advance+field+group+item+parse_addition+parse_deref_steps_list+parse_expression+parse_multiplication+parse_primary_expression+parse_reference+parse_rest_of_list+parse_singular_expression+parse_unary_expression+step.Lts-parse_reference as reference-lts
+use Rattle.expressions.proofs.+advance+field+group+item+parse_addition+parse_deref_steps_list+parse_expression+parse_multiplication+parse_primary_expression+parse_reference+parse_rest_of_list+parse_singular_expression+parse_unary_expression+step.Proof.Shared.{advance-below, deref-steps-below, reference-at}
 
 abbrev calls : ℕ → reference-lts.Claims
-calls t = (deref-below t, deref.Post, advance-below t, advance.Post)
+calls t = (deref-steps-below t, deref-steps.Post, advance-below t, advance.Post)
 
 returns : (t : ℕ) → reference-lts.Need-returns (calls t) (reference-at t) reference.Post
 returns t c = search (needs, reference-stopped)

@@ -2,24 +2,24 @@ use borrow.Author.Needs.{needs}
 use Rattle.expressions.proofs.Bounds.{list-sized, reference-sized, group-sized, name-slots}
 use Rattle.expressions.proofs.Laws.{list-opened, reference-opened, name-opened, group-opened, literal-opened, primary-refused}
 use Prim.Native.Nat.{ℕ}
-use Rattle.expressions.proofs.comma_list.Reads as comma-list
+use Rattle.expressions.proofs.parse_rest_of_list.Reads as rest-of-list
 use Rattle.expressions.proofs.group.Reads as group
-use Rattle.expressions.proofs.primary.Reads as primary
-use Rattle.expressions.proofs.+addition+advance+comma_list+deref+expression+field+group+item+multiplication+primary+reference+singular+step+unary.Lts-primary as primary-lts
-use Rattle.expressions.proofs.reference.Reads as reference
+use Rattle.expressions.proofs.parse_primary_expression.Reads as primary
+use Rattle.expressions.proofs.+advance+field+group+item+parse_addition+parse_deref_steps_list+parse_expression+parse_multiplication+parse_primary_expression+parse_reference+parse_rest_of_list+parse_singular_expression+parse_unary_expression+step.Lts-parse_primary_expression as primary-lts
+use Rattle.expressions.proofs.parse_reference.Reads as reference
 use Rattle.literals.proofs.parse_literal.Reads as parse-literal-reads
 use Rattle.openings.proofs.parse_opening.Reads as parse-opening-reads
 use Rattle.references.proofs.push_name.Reads as push-name-reads
-use Rattle.expressions.proofs.+addition+advance+comma_list+deref+expression+field+group+item+multiplication+primary+reference+singular+step+unary.Proof.Shared.{comma-list-below, group-below, primary-at, reference-below}
+use Rattle.expressions.proofs.+advance+field+group+item+parse_addition+parse_deref_steps_list+parse_expression+parse_multiplication+parse_primary_expression+parse_reference+parse_rest_of_list+parse_singular_expression+parse_unary_expression+step.Proof.Shared.{rest-of-list-below, group-below, primary-at, reference-below}
 
 abbrev calls : ℕ → primary-lts.Claims
-calls t = (parse-opening-reads.Asked, parse-opening-reads.Learnt, comma-list-below t, comma-list.Post, reference-below t, reference.Post, push-name-reads.Asked, push-name-reads.Learnt, group-below t, group.Post, parse-literal-reads.Asked, parse-literal-reads.Learnt)
+calls t = (parse-opening-reads.Asked, parse-opening-reads.Learnt, rest-of-list-below t, rest-of-list.Post, reference-below t, reference.Post, push-name-reads.Asked, push-name-reads.Learnt, group-below t, group.Post, parse-literal-reads.Asked, parse-literal-reads.Learnt)
 
-comma-list-requires : (t : ℕ) → primary-lts.Need-comma-list-requires (calls t) (primary-at t) primary.Post
-comma-list-requires t c κs = (search needs, search (needs, list-sized))
+parse-rest-of-list-requires : (t : ℕ) → primary-lts.Need-parse-rest-of-list-requires (calls t) (primary-at t) primary.Post
+parse-rest-of-list-requires t c κs = (search needs, search (needs, list-sized))
 
-reference-requires : (t : ℕ) → primary-lts.Need-reference-requires (calls t) (primary-at t) primary.Post
-reference-requires t c κs = (search needs, search (needs, reference-sized))
+parse-reference-requires : (t : ℕ) → primary-lts.Need-parse-reference-requires (calls t) (primary-at t) primary.Post
+parse-reference-requires t c κs = (search needs, search (needs, reference-sized))
 
 push-name-requires : (t : ℕ) → primary-lts.Need-push-name-requires (calls t) (primary-at t) primary.Post
 push-name-requires t c κs = search (needs, name-slots)
@@ -50,9 +50,9 @@ spec t =
     primary-lts.spec (calls t) (primary-at t) primary.Post
     (λ c κs. search needs)
     (λ c. search needs)
-    (comma-list-requires t)
+    (parse-rest-of-list-requires t)
     (λ c. search needs)
-    (reference-requires t)
+    (parse-reference-requires t)
     (λ c. search needs)
     (push-name-requires t)
     (λ c. search needs)

@@ -7,12 +7,12 @@ use Prim.Native.Nat.{ℕ, _-_}
 use lib.ListN.{length}
 use Rattle.codes.specs.Answer.{Sized}
 use mathlib.Core.Path.{_≡_}
-use Rattle.expressions.proofs.addition.Reads as addition
-use Rattle.expressions.proofs.+addition+advance+comma_list+deref+expression+field+group+item+multiplication+primary+reference+singular+step+unary.Lts-addition as addition-lts
-use Rattle.expressions.proofs.multiplication.Reads as multiplication
+use Rattle.expressions.proofs.parse_addition.Reads as addition
+use Rattle.expressions.proofs.+advance+field+group+item+parse_addition+parse_deref_steps_list+parse_expression+parse_multiplication+parse_primary_expression+parse_reference+parse_rest_of_list+parse_singular_expression+parse_unary_expression+step.Lts-parse_addition as addition-lts
+use Rattle.expressions.proofs.parse_multiplication.Reads as multiplication
 use Rattle.operators.proofs.join_term.Reads as join-term-reads
 use Rattle.operators.proofs.takes_unary.Reads as takes-unary-reads
-use Rattle.expressions.proofs.+addition+advance+comma_list+deref+expression+field+group+item+multiplication+primary+reference+singular+step+unary.Proof.Shared.{addition-at, multiplication-below}
+use Rattle.expressions.proofs.+advance+field+group+item+parse_addition+parse_deref_steps_list+parse_expression+parse_multiplication+parse_primary_expression+parse_reference+parse_rest_of_list+parse_singular_expression+parse_unary_expression+step.Proof.Shared.{addition-at, multiplication-below}
 
 abbrev calls : ℕ → addition-lts.Claims
 calls t = (takes-unary-reads.Asked, takes-unary-reads.Learnt, multiplication-below t, multiplication.Post, join-term-reads.Asked, join-term-reads.Learnt)

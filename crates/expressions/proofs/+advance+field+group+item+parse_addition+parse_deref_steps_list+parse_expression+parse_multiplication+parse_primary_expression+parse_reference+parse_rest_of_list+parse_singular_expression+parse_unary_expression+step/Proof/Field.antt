@@ -2,14 +2,14 @@ use Rattle.expressions.proofs.Bounds.{past-expression, expression-slots
 use borrow.Author.Needs.{needs}
 use Rattle.expressions.proofs.Laws.{field-short, field-stopped, field-read, field-unnamed}
 use Prim.Native.Nat.{ℕ}
-use Rattle.expressions.proofs.expression.Reads as expression
+use Rattle.expressions.proofs.parse_expression.Reads as expression
 use Rattle.expressions.proofs.field.Reads as field
-use Rattle.expressions.proofs.+addition+advance+comma_list+deref+expression+field+group+item+multiplication+primary+reference+singular+step+unary.Lts-field as field-lts
+use Rattle.expressions.proofs.+advance+field+group+item+parse_addition+parse_deref_steps_list+parse_expression+parse_multiplication+parse_primary_expression+parse_reference+parse_rest_of_list+parse_singular_expression+parse_unary_expression+step.Lts-field as field-lts
 use Rattle.lists.proofs.finish_field.Reads as finish-field-reads
 use Rattle.lists.proofs.finish_shorthand.Reads as finish-shorthand-reads
 use Rattle.tokens.proofs.consume.Reads as consume-reads
 use Rattle.tokens.proofs.consume_optional.Reads as consume-optional-reads
-use Rattle.expressions.proofs.+addition+advance+comma_list+deref+expression+field+group+item+multiplication+primary+reference+singular+step+unary.Proof.Shared.{expression-below, field-at}
+use Rattle.expressions.proofs.+advance+field+group+item+parse_addition+parse_deref_steps_list+parse_expression+parse_multiplication+parse_primary_expression+parse_reference+parse_rest_of_list+parse_singular_expression+parse_unary_expression+step.Proof.Shared.{expression-below, field-at}
 
 abbrev calls : ℕ → field-lts.Claims
 calls t = (consume-reads.Asked, consume-reads.Learnt, consume-optional-reads.Asked, consume-optional-reads.Learnt, finish-shorthand-reads.Asked, finish-shorthand-reads.Learnt, expression-below t, expression.Post, finish-field-reads.Asked, finish-field-reads.Learnt)
@@ -23,8 +23,8 @@ finish-shorthand-requires t c κs = (search (needs, past-colon), search (needs, 
 returns : (t : ℕ) → field-lts.Need-returns (calls t) (field-at t) field.Post
 returns t c = search (needs, field-short)
 
-expression-requires : (t : ℕ) → field-lts.Need-expression-requires (calls t) (field-at t) field.Post
-expression-requires t c κs = (search needs, search (needs, colon-sized))
+parse-expression-requires : (t : ℕ) → field-lts.Need-parse-expression-requires (calls t) (field-at t) field.Post
+parse-expression-requires t c κs = (search needs, search (needs, colon-sized))
 
 returns-2 : (t : ℕ) → field-lts.Need-returns-2 (calls t) (field-at t) field.Post
 returns-2 t c = search (needs, field-stopped)
@@ -35,7 +35,7 @@ finish-field-requires t c κs =
     let h = c .before .before .before .before .before .before .before .before .before .before .before .before .before .before .before .before .before .before .before .consume .ensures in
     let e = c .before .before .before .before .before .before .before .before .before .before .before .before .before .before .before .before .before .after .given .1 in
     let z = colon-sized h e (p .0) (c .before .before .before .before .before .before .before .before .before .before .before .before .before .before .before .consume-optional .ensures) in
-    let g = c .before .before .before .before .before .before .before .before .before .expression .ensures in
+    let g = c .before .before .before .before .before .before .before .before .before .parse-expression .ensures in
     let q = c .before .before .before .value .given .1 in (
       past-expression _ g q z,
       expression-slots _ g q z,
@@ -47,7 +47,7 @@ returns-3 : (t : ℕ) → field-lts.Need-returns-3 (calls t) (field-at t) field.
 returns-3 t c =
     let a = c .before .before .before .before .before .before .before .before .before .before .before .before .before .before .before .before .before .before .before .before .before .before .before .before .before .before .before .before .before .args in
     field-read _ _ _ _ (a .list) (a .items) (c .before .before .before .before .before .before .before .before .before .before .before .before .before .before .before .before .before .before .before .before .before .before .before .before .consume .ensures) (c .before .before .before .before .before .before .before .before .before .before .before .before .before .before .before .before .before .before .before .before .before .before .after .given .1) (c .before .before .before .before .before .before .before .before .before .before .before .before .before .before .before .before .before .before .before .before .consume-optional .ensures)
-    (c .before .before .before .before .before .before .before .before .before .before .before .before .before .before .before .before .before .if1 .left) (c .before .before .before .before .before .before .before .before .before .before .before .before .before .before .expression .ensures) (c .before .before .before .before .before .before .before .before .value .given .1) (c .before .before .before .before .finish-field .ensures)
+    (c .before .before .before .before .before .before .before .before .before .before .before .before .before .before .before .before .before .if1 .left) (c .before .before .before .before .before .before .before .before .before .before .before .before .before .before .parse-expression .ensures) (c .before .before .before .before .before .before .before .before .value .given .1) (c .before .before .before .before .finish-field .ensures)
 
 returns-4 : (t : ℕ) → field-lts.Need-returns-4 (calls t) (field-at t) field.Post
 returns-4 t c = search (needs, field-unnamed)
@@ -62,7 +62,7 @@ spec t =
     (λ c. search needs)
     (λ c. search needs)
     (returns t)
-    (expression-requires t)
+    (parse-expression-requires t)
     (λ c. search needs)
     (λ c. search needs)
     (λ c. search needs)

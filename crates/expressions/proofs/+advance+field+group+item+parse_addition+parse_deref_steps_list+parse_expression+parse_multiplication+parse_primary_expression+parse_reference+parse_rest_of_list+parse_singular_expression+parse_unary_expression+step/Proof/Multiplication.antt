@@ -7,11 +7,11 @@ use Prim.Native.Nat.{ℕ, _-_}
 use lib.ListN.{length}
 use Rattle.codes.specs.Answer.{Sized}
 use mathlib.Core.Path.{_≡_}
-use Rattle.expressions.proofs.multiplication.Reads as multiplication
-use Rattle.expressions.proofs.+addition+advance+comma_list+deref+expression+field+group+item+multiplication+primary+reference+singular+step+unary.Lts-multiplication as multiplication-lts
-use Rattle.expressions.proofs.singular.Reads as singular
+use Rattle.expressions.proofs.parse_multiplication.Reads as multiplication
+use Rattle.expressions.proofs.+advance+field+group+item+parse_addition+parse_deref_steps_list+parse_expression+parse_multiplication+parse_primary_expression+parse_reference+parse_rest_of_list+parse_singular_expression+parse_unary_expression+step.Lts-parse_multiplication as multiplication-lts
+use Rattle.expressions.proofs.parse_singular_expression.Reads as singular
 use Rattle.operators.proofs.join_factor.Reads as join-factor-reads
-use Rattle.expressions.proofs.+addition+advance+comma_list+deref+expression+field+group+item+multiplication+primary+reference+singular+step+unary.Proof.Shared.{multiplication-at, singular-below}
+use Rattle.expressions.proofs.+advance+field+group+item+parse_addition+parse_deref_steps_list+parse_expression+parse_multiplication+parse_primary_expression+parse_reference+parse_rest_of_list+parse_singular_expression+parse_unary_expression+step.Proof.Shared.{multiplication-at, singular-below}
 
 abbrev calls : ℕ → multiplication-lts.Claims
 calls t = (singular-below t, singular.Post, join-factor-reads.Asked, join-factor-reads.Learnt)

@@ -2,13 +2,13 @@ use Rattle.expressions.proofs.Bounds.{past-expression, expression-slots
 use borrow.Author.Needs.{needs}
 use Rattle.expressions.proofs.Laws.{item-none, item-field, item-stopped, item-read}
 use Prim.Native.Nat.{ℕ}
-use Rattle.expressions.proofs.expression.Reads as expression
+use Rattle.expressions.proofs.parse_expression.Reads as expression
 use Rattle.expressions.proofs.field.Reads as field
 use Rattle.expressions.proofs.item.Reads as item
-use Rattle.expressions.proofs.+addition+advance+comma_list+deref+expression+field+group+item+multiplication+primary+reference+singular+step+unary.Lts-item as item-lts
+use Rattle.expressions.proofs.+advance+field+group+item+parse_addition+parse_deref_steps_list+parse_expression+parse_multiplication+parse_primary_expression+parse_reference+parse_rest_of_list+parse_singular_expression+parse_unary_expression+step.Lts-item as item-lts
 use Rattle.lists.proofs.finish_item.Reads as finish-item-reads
 use Rattle.tokens.proofs.consume_optional.Reads as consume-optional-reads
-use Rattle.expressions.proofs.+addition+advance+comma_list+deref+expression+field+group+item+multiplication+primary+reference+singular+step+unary.Proof.Shared.{expression-below, field-below, item-at}
+use Rattle.expressions.proofs.+advance+field+group+item+parse_addition+parse_deref_steps_list+parse_expression+parse_multiplication+parse_primary_expression+parse_reference+parse_rest_of_list+parse_singular_expression+parse_unary_expression+step.Proof.Shared.{expression-below, field-below, item-at}
 
 abbrev calls : ℕ → item-lts.Claims
 calls t = (consume-optional-reads.Asked, consume-optional-reads.Learnt, field-below t, field.Post, expression-below t, expression.Post, finish-item-reads.Asked, finish-item-reads.Learnt)
@@ -22,8 +22,8 @@ field-requires t c κs = (search needs, (search (needs, item-sized), search need
 returns-2 : (t : ℕ) → item-lts.Need-returns-2 (calls t) (item-at t) item.Post
 returns-2 t c = search (needs, item-field)
 
-expression-requires : (t : ℕ) → item-lts.Need-expression-requires (calls t) (item-at t) item.Post
-expression-requires t c κs = (search needs, search (needs, item-sized))
+parse-expression-requires : (t : ℕ) → item-lts.Need-parse-expression-requires (calls t) (item-at t) item.Post
+parse-expression-requires t c κs = (search needs, search (needs, item-sized))
 
 returns-3 : (t : ℕ) → item-lts.Need-returns-3 (calls t) (item-at t) item.Post
 returns-3 t c = search (needs, item-stopped)
@@ -32,7 +32,7 @@ finish-item-requires : (t : ℕ) → item-lts.Need-finish-item-requires (calls t
 finish-item-requires t c κs =
     let p = c .before .before .before .before .before .before .before .before .before .before .before .before .before .before .before .before .before .before .before .before .pre .1 in
     let z = item-sized _ (c .before .before .before .before .before .before .before .before .before .before .before .before .before .before .before .consume-optional .ensures) (c .before .before .before .before .before .before .before .before .before .before .before .before .before .if1 .left) (p .0) in
-    let g = c .before .before .before .before .before .before .before .before .before .expression .ensures in
+    let g = c .before .before .before .before .before .before .before .before .before .parse-expression .ensures in
     let q = c .before .before .before .item .given .1 in
     (past-expression _ g q z, expression-slots _ g q z, expression-kept _ g q z (p .1), expression-kept _ g q z (p .2))
 
@@ -48,7 +48,7 @@ spec t =
     (λ c. search needs)
     (λ c. search needs)
     (returns-2 t)
-    (expression-requires t)
+    (parse-expression-requires t)
     (λ c. search needs)
     (λ c. search needs)
     (λ c. search needs)

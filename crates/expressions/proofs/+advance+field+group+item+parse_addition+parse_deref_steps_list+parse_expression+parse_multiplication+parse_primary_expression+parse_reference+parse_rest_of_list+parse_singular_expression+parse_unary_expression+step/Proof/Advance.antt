@@ -4,11 +4,11 @@ use Rattle.tokens.proofs.Bounds.{past-optional}
 use Rattle.expressions.proofs.Laws.{advance-none, advance-stopped, advance-read}
 use Prim.Native.Nat.{ℕ}
 use Rattle.expressions.proofs.advance.Reads as advance
-use Rattle.expressions.proofs.+addition+advance+comma_list+deref+expression+field+group+item+multiplication+primary+reference+singular+step+unary.Lts-advance as advance-lts
-use Rattle.expressions.proofs.expression.Reads as expression
+use Rattle.expressions.proofs.+advance+field+group+item+parse_addition+parse_deref_steps_list+parse_expression+parse_multiplication+parse_primary_expression+parse_reference+parse_rest_of_list+parse_singular_expression+parse_unary_expression+step.Lts-advance as advance-lts
+use Rattle.expressions.proofs.parse_expression.Reads as expression
 use Rattle.operators.proofs.push_binary.Reads as push-binary-reads
 use Rattle.tokens.proofs.consume_optional.Reads as consume-optional-reads
-use Rattle.expressions.proofs.+addition+advance+comma_list+deref+expression+field+group+item+multiplication+primary+reference+singular+step+unary.Proof.Shared.{advance-at, expression-below}
+use Rattle.expressions.proofs.+advance+field+group+item+parse_addition+parse_deref_steps_list+parse_expression+parse_multiplication+parse_primary_expression+parse_reference+parse_rest_of_list+parse_singular_expression+parse_unary_expression+step.Proof.Shared.{advance-at, expression-below}
 
 abbrev calls : ℕ → advance-lts.Claims
 calls t = (consume-optional-reads.Asked, consume-optional-reads.Learnt, expression-below t, expression.Post, push-binary-reads.Asked, push-binary-reads.Learnt)
@@ -16,8 +16,8 @@ calls t = (consume-optional-reads.Asked, consume-optional-reads.Learnt, expressi
 returns : (t : ℕ) → advance-lts.Need-returns (calls t) (advance-at t) advance.Post
 returns t c = search (needs, advance-none)
 
-expression-requires : (t : ℕ) → advance-lts.Need-expression-requires (calls t) (advance-at t) advance.Post
-expression-requires t c κs = (search needs, search (needs, past-optional))
+parse-expression-requires : (t : ℕ) → advance-lts.Need-parse-expression-requires (calls t) (advance-at t) advance.Post
+parse-expression-requires t c κs = (search needs, search (needs, past-optional))
 
 returns-2 : (t : ℕ) → advance-lts.Need-returns-2 (calls t) (advance-at t) advance.Post
 returns-2 t c = search (needs, advance-stopped)
@@ -33,7 +33,7 @@ spec t =
     advance-lts.spec (calls t) (advance-at t) advance.Post
     (λ c κs. search needs)
     (returns t)
-    (expression-requires t)
+    (parse-expression-requires t)
     (λ c. search needs)
     (λ c. search needs)
     (λ c. search needs)

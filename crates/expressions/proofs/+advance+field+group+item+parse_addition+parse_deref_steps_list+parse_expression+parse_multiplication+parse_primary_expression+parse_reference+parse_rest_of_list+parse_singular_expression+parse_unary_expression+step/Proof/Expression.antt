@@ -1,10 +1,10 @@
 use borrow.Author.Needs.{needs}
 use Rattle.expressions.proofs.Laws.{too-deep, expression-read}
 use Prim.Native.Nat.{ℕ}
-use Rattle.expressions.proofs.addition.Reads as addition
-use Rattle.expressions.proofs.expression.Reads as expression
-use Rattle.expressions.proofs.+addition+advance+comma_list+deref+expression+field+group+item+multiplication+primary+reference+singular+step+unary.Lts-expression as expression-lts
-use Rattle.expressions.proofs.+addition+advance+comma_list+deref+expression+field+group+item+multiplication+primary+reference+singular+step+unary.Proof.Shared.{addition-below, expression-at}
+use Rattle.expressions.proofs.parse_addition.Reads as addition
+use Rattle.expressions.proofs.parse_expression.Reads as expression
+use Rattle.expressions.proofs.+advance+field+group+item+parse_addition+parse_deref_steps_list+parse_expression+parse_multiplication+parse_primary_expression+parse_reference+parse_rest_of_list+parse_singular_expression+parse_unary_expression+step.Lts-parse_expression as expression-lts
+use Rattle.expressions.proofs.+advance+field+group+item+parse_addition+parse_deref_steps_list+parse_expression+parse_multiplication+parse_primary_expression+parse_reference+parse_rest_of_list+parse_singular_expression+parse_unary_expression+step.Proof.Shared.{addition-below, expression-at}
 
 abbrev calls : ℕ → expression-lts.Claims
 calls t = (addition-below t, addition.Post)
