@@ -2,8 +2,8 @@
 use mathlib.Core.Path.{_≡_, ap}
 use Prim.Native.Nat.{ℕ, suc, _+_, _-_, _≤_, _<_}
 use native.Mathlib.Omega.{arith}
-use Rattle.codes.proofs.Onto.{Onto, _then_, first, reads, stops}
-use Rattle.rules.specs.Reading.{Rule, ok, Outcome, Step, again, done, onward, repeat, pure, refuse, _>>=_}
+use Rattle.codes.proofs.Onto.{Onto, _then_, first, reads}
+use Rattle.rules.specs.Reading.{Rule, ok, Outcome, Step, again, done, onward, repeat, pure, _>>=_}
 use Rattle.rules.specs.Columns.{Nodes}
 
 -- a round of so many left
@@ -26,12 +26,6 @@ module _ {A B : Type 0} (f : A → Rule Nodes (Step A B)) (over : Rule Nodes B) 
       Onto (repeat f over (suc n) a) c s (pure b) c' s'
   unfolding repeat
   round-last e = reads _ e
-
-  pub round-stops :
-      {x y z c' : ℕ} {s' : Nodes} → Onto (f a) c s (refuse x y z) c' s' →
-      Onto (repeat f over (suc n) a) c s (refuse x y z) c' s'
-  unfolding repeat
-  round-stops e = stops _ e
 
 -- what a round's end holds
 abbrev pub heldIn : {A : Type 0} → Step A A → A

@@ -1,5 +1,5 @@
 -- What the readers of expressions take for granted holds where they are called, and after them.
-use mathlib.Core.Path.{_≡_, refl, sym, _∙_}
+use mathlib.Core.Path.{_≡_, refl}
 use mathlib.Core.Bool.{Bool, true, false}
 use mathlib.Core.List.{List}
 use Prim.Native.Nat.{ℕ, _+_, _≤_, _<_}
@@ -33,7 +33,7 @@ use Rattle.rules.specs.Codes.BaseToken as BaseToken
 use Rattle.rules.specs.Columns.{columns}
 use Rattle.rules.specs.Expressions.{expression}
 use Rattle.rules.proofs.Demand.{below}
-use Rattle.rules.proofs.Forward.{Goes, picks}
+use Rattle.rules.proofs.Forward.{picks}
 use Rattle.rules.proofs.Moves.{type-moves, expression-moves, stepped-stays, reference-moves, primary-moves, unary-moves}
 use Rattle.rules.proofs.Moves.{singular-moves, operand-moves}
 

@@ -5,12 +5,12 @@ use mathlib.Core.List.{List, [], _∷_}
 use Prim.Native.Nat.{ℕ, zero, suc, _+_, _-_}
 use native.Mathlib.Numerals.{sub-one}
 use lib.Dec.{eqb}
-use borrow.Author.Tests.{eq-eqb, ne-eqb, eqb-true, eqb-false}
+use borrow.Author.Tests.{ne-eqb, eqb-true, eqb-false}
 use Rattle.codes.specs.declared.Parsed.{Parsed}
 use Rattle.codes.specs.declared.Parsed.the-variants.{Node, Refused}
 use Rattle.codes.specs.declared.NodeId.{NodeId}
 use Rattle.codes.specs.declared.TokenId.{TokenId}
-use Rattle.codes.specs.Answer.{As, Gives, Quiet, Untyped, Sized, nodes, token, nodeId, row, refusal, parsed}
+use Rattle.codes.specs.Answer.{As, Gives, Quiet, Untyped, nodes, token, nodeId, row, refusal, parsed}
 use Rattle.codes.proofs.Onto.{Onto, _then_, stays, first, reads, at-here, takes, peeks, answers, declines, shows, told}
 use Rattle.codes.proofs.Onto.{hands-on, held, came-read, plain-parsed, regroup, Rest, beside, picked}
 use Rattle.tokens.specs.declared.Optional.{Optional}
@@ -29,7 +29,8 @@ use Rattle.nodes.specs.Answer.{ends}
 use Rattle.nodes.proofs.Laws.{active-ends}
 use Rattle.literals.specs.Answer.{Literal}
 use Rattle.openings.specs.declared.Opening.{Opening}
-use Rattle.openings.specs.declared.Opening.the-variants.{List as Items, Reference, Name, Group, Literal as Plainly, Refused as Unopened}
+use Rattle.openings.specs.declared.Opening.the-variants.{List as Items, Reference, Name, Group, Literal as Plainly}
+use Rattle.openings.specs.declared.Opening.the-variants.{Refused as Unopened}
 use Rattle.openings.specs.Answer.{Holds, Onward, Opens, Starts, listed, referred, alone as named, grouped, primaryOr}
 use Rattle.expressions.specs.Answer.{prefixEnd, unaryEnd, sums, unaries, factors, within, advancing, dereferring}
 use Rattle.expressions.specs.Answer.{listItems, fields}
@@ -42,8 +43,8 @@ use Rattle.rules.specs.Codes.{pick}
 use Rattle.rules.specs.Reading.{Row, Rule, Result, ok, no, next, pure, choose, _>>=_}
 use Rattle.rules.specs.Columns.{Nodes, columns}
 use Rattle.rules.specs.Types.{type}
-use Rattle.rules.specs.Expressions.{binary, advanced, singular, singularEnd, sizeOf, listItem, field}
-use Rattle.rules.specs.Expressions.{expression, nameAlone, parenthesized, prefix, prefixed, lengthOf, unary, primary}
+use Rattle.rules.specs.Expressions.{binary, advanced, singular, singularEnd, sizeOf, listItem, field, expression}
+use Rattle.rules.specs.Expressions.{nameAlone, parenthesized, prefix, prefixed, lengthOf, unary}
 
 -- the operand's place, by the first token of a unary
 pub data Prefixes : ℕ → Type 0 where

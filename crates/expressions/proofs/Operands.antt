@@ -3,7 +3,7 @@
 use mathlib.Core.Path.{_≡_, sym}
 use mathlib.Core.Bool.{Bool, true, false, true≢false}
 use mathlib.Core.List.{List}
-use Prim.Native.Nat.{ℕ, suc, _+_, _-_, _<_}
+use Prim.Native.Nat.{ℕ, suc, _-_, _<_}
 use native.Mathlib.Omega.{arith}
 use lib.ListN.{length}
 use Rattle.codes.specs.declared.Parsed.{Parsed}
@@ -28,7 +28,7 @@ use Rattle.rules.specs.Codes.Refusal as Refusal
 use Rattle.rules.specs.Reading.{Rule, Row, Step, done, again, refuse, repeat, loop, _>>=_}
 use Rattle.rules.specs.Columns.{Nodes}
 use Rattle.rules.specs.Expressions as Rules
-use Rattle.rules.specs.Expressions.{takesUnary, sum, product, termEnd, factorEnd}
+use Rattle.rules.specs.Expressions.{takesUnary, sum, product}
 
 -- Rounds of which each reads an operand by m, and joins it by j.
 module _ (tk tv : List ℕ) (m : Rules.Pending ℕ → Rule Nodes ℕ)
@@ -89,7 +89,8 @@ module _ (tk tv : List ℕ) (u c₀ : ℕ) {s₀ : Nodes} (p : Pending) (c k : �
   module _ {e : NodeId} {a : TokenId} {j : ℕ} (q : r₁ ≡ Node e a j) {z : Joint} {ks₂ ls₂ : List ℕ}
       (d : Untyped joint (termJoined (pend p) (e .0)) tk (a .0) (nodes ks₁ ls₁ j) z ks₂ ls₂) where
     pub sum-refused : {r : Parsed} → z ≡ Stopped r → Gives (sums u (row tk tv)) c₀ s₀ r ks₂ ls₂
-    sum-refused w = round-refused tk tv (termOperand tk tv u) termJoined (pend p) (h .rounds) (h .onto) (rw b at g) q d w
+    sum-refused w =
+        round-refused tk tv (termOperand tk tv u) termJoined (pend p) (h .rounds) (h .onto) (rw b at g) q d w
 
     pub sum-read :
         {root : NodeId} {f : TokenId} {i : ℕ} → z ≡ Last root f i →
@@ -111,7 +112,8 @@ module _ (tk tv : List ℕ) (u c₀ : ℕ) {s₀ : Nodes} (p : Pending) (c k : �
 
       pub next-term : Terms tk tv u c₀ s₀ p' (f .0) (nodes ks₂ ls₂ i)
       next-term =
-          goes-round _ h (next-round tk tv (termOperand tk tv u) termJoined (pend p) (rw b at g) q d w) (sum-moves .1) (sum-moves .0 .at)
+          goes-round _ h (next-round tk tv (termOperand tk tv u) termJoined (pend p) (rw b at g) q d w) (sum-moves .1)
+          (sum-moves .0 .at)
 
 -- Between two factors of a product; a bare one has one operand only.
 abbrev pub Factors : List ℕ → List ℕ → ℕ → Bool → ℕ → Nodes → Pending → ℕ → Nodes → Type 0
@@ -141,7 +143,8 @@ pub product-stopped :
     Gives (operand bare u (row tk tv)) c₀ s₀ r₁ ks₁ ls₁
 unfolding factors
 product-stopped tk tv u true c₀ p c h g q = shows (h .onto) g
-product-stopped tk tv u false c₀ p c h g q = round-stopped tk tv (λ _. factors false u (row tk tv)) factorJoined (pend p) (h .rounds) (h .onto) g q
+product-stopped tk tv u false c₀ p c h g q =
+    round-stopped tk tv (λ _. factors false u (row tk tv)) factorJoined (pend p) (h .rounds) (h .onto) g q
 
 module _ (tk tv : List ℕ) (u : ℕ) (bare : Bool) (c₀ : ℕ) {s₀ : Nodes} (p : Pending) (c k : ℕ) {ks ls : List ℕ}
     (h : Factors tk tv u bare c₀ s₀ p c (nodes ks ls k)) {r₁ : Parsed} {ks₁ ls₁ : List ℕ}
@@ -155,12 +158,18 @@ module _ (tk tv : List ℕ) (u : ℕ) (bare : Bool) (c₀ : ℕ) {s₀ : Nodes} 
   given = rw b at g
 
   pub product-refused : {r : Parsed} → z ≡ Stopped r → Gives (operand bare u (row tk tv)) c₀ s₀ r ks₂ ls₂
-  product-refused w = rw b (round-refused tk tv (λ _. factors false u (row tk tv)) factorJoined (pend p) (going .rounds) (going .onto) given q d w)
+  product-refused w =
+      rw b
+      (round-refused tk tv (λ _. factors false u (row tk tv)) factorJoined (pend p) (going .rounds) (going .onto) given
+      q d w)
 
   pub product-read :
       {root : NodeId} {f : TokenId} {i : ℕ} → z ≡ Last root f i →
       Gives (operand bare u (row tk tv)) c₀ s₀ (Node root f i) ks₂ ls₂
-  product-read w = rw b (round-ends tk tv (λ _. factors false u (row tk tv)) factorJoined (pend p) (going .rounds) (going .onto) given q d w)
+  product-read w =
+      rw b
+      (round-ends tk tv (λ _. factors false u (row tk tv)) factorJoined (pend p) (going .rounds) (going .onto) given q d
+      w)
 
   module _ {p' : Pending} {f : TokenId} {i : ℕ} (w : z ≡ More p' f i) (y : Sized tk tv ks ls c k) where
     product-moves : Sized tk tv ks₂ ls₂ (f .0) i × (c < f .0)
@@ -178,4 +187,5 @@ module _ (tk tv : List ℕ) (u : ℕ) (bare : Bool) (c₀ : ℕ) {s₀ : Nodes} 
     pub next-factor : Factors tk tv u bare c₀ s₀ p' (f .0) (nodes ks₂ ls₂ i)
     next-factor =
         rw b
-        (goes-round _ going (next-round tk tv (λ _. factors false u (row tk tv)) factorJoined (pend p) given q d w) (product-moves .1) (product-moves .0 .at))
+        (goes-round _ going (next-round tk tv (λ _. factors false u (row tk tv)) factorJoined (pend p) given q d w)
+        (product-moves .1) (product-moves .0 .at))

@@ -5,7 +5,6 @@ use mathlib.Core.List.{List, [], _∷_}
 use mathlib.Core.Option.{Option, none}
 use Prim.Native.Nat.{ℕ, suc, _+_, _-_, _≤_, _<_}
 use native.Mathlib.Omega.{arith}
-use lib.ListN.{length}
 use Rattle.codes.specs.declared.Parsed.{Parsed}
 use Rattle.codes.specs.declared.Parsed.the-variants.{Node, Refused}
 use Rattle.codes.specs.declared.NodeId.{NodeId}
@@ -151,7 +150,8 @@ module _ {tk tv ns ls : List ℕ} (u c k : ℕ) (l : ActiveList) {r : Stepped} {
 abbrev pub Steps : List ℕ → List ℕ → ℕ → ℕ → ℕ → ℕ → ℕ → Nodes → ℕ → ActiveList → ℕ → Nodes → Type 0
 Steps tk tv u start depth name c₀ s₀ n l c s =
     Onto (within (dereferring start depth name) u (row tk tv)) c₀ s₀
-    (repeat (step columns (row tk tv) (expression columns (row tk tv) u)) (exceeded columns c₀) (Limit.ReferenceDepth - n)
+    (repeat (step columns (row tk tv) (expression columns (row tk tv) u)) (exceeded columns c₀)
+    (Limit.ReferenceDepth - n)
     (ends l) >>= λ m. derefEnd m start depth name) c s
 
 pub first-step :

@@ -1,5 +1,5 @@
 // Expressions and references, after parse_expression to parse_deref_steps_list of the Rust's parser.rs: the readers that
-// call each other. In each, `unused` is the nesting that is left for what is inside.
+// call each other. In each, `unused` is the nesting (document 01's term) that is left for what is inside.
 ghost use mathlib.Core.Path.{_≡_};
 ghost use Prim.Native.Nat.{_+_, _≤_};
 ghost use lib.ListN.{length};
@@ -113,7 +113,7 @@ fn finish_unary(
     }
 }
 
-// An expression. Rust: parse_expression.
+// An expression, one level further in.
 pub fn parse_expression(
     kinds: &[u8],
     types: &[u8],
@@ -139,8 +139,8 @@ pub fn parse_expression(
     parse_addition(kinds, types, node_kinds, node_loads, cursor, count, left)
 }
 
-// Products joined by `+` or `-`, and what may follow them. Rust: parse_addition, parse_rest_of_bitwise_expression and
-// parse_rest_of_bitshift_operation.
+// Products joined by `+` or `-`, and what may follow them. In the Rust parse_rest_of_bitwise_expression and
+// parse_rest_of_bitshift_operation read on after a bitwise operator or a shift; here the pending operator says so.
 fn parse_addition(
     kinds: &[u8],
     types: &[u8],
@@ -159,7 +159,16 @@ fn parse_addition(
     loop {
         let at = TokenId(place);
         let bare = takes_unary(pending);
-        let right = parse_multiplication(kinds, types, node_kinds, node_loads, at, used, unused, bare);
+        let right = parse_multiplication(
+            kinds,
+            types,
+            node_kinds,
+            node_loads,
+            at,
+            used,
+            unused,
+            bare,
+        );
         let Parsed::Node {
             root,
             cursor: after,
@@ -181,12 +190,12 @@ fn parse_addition(
             Joint::Last {
                 root: sum,
                 cursor: end,
-                count: grown,
+                count: total,
             } => {
                 return Parsed::Node {
                     root: sum,
                     cursor: end,
-                    count: grown,
+                    count: total,
                 };
             }
             Joint::Refused { refusal } => {
@@ -196,7 +205,7 @@ fn parse_addition(
     }
 }
 
-// Singulars joined by `*`, `/` or `%`; or, if bare, a unary only. Rust: parse_multiplication.
+// Singulars joined by `*`, `/` or `%`; or, if bare, a unary only.
 fn parse_multiplication(
     kinds: &[u8],
     types: &[u8],
@@ -215,7 +224,16 @@ fn parse_multiplication(
     let mut used = count;
     loop {
         let at = TokenId(place);
-        let right = parse_singular_expression(kinds, types, node_kinds, node_loads, at, used, unused, bare);
+        let right = parse_singular_expression(
+            kinds,
+            types,
+            node_kinds,
+            node_loads,
+            at,
+            used,
+            unused,
+            bare,
+        );
         let Parsed::Node {
             root,
             cursor: after,
@@ -240,12 +258,12 @@ fn parse_multiplication(
             Joint::Last {
                 root: product,
                 cursor: end,
-                count: grown,
+                count: all,
             } => {
                 return Parsed::Node {
                     root: product,
                     cursor: end,
-                    count: grown,
+                    count: all,
                 };
             }
             Joint::Refused { refusal } => {
@@ -298,7 +316,7 @@ fn parse_singular_expression(
     )
 }
 
-// A size, a length, or a primary with `!` or `-` before it. Rust: parse_unary_expression.
+// A size, a length, or a primary with `!` or `-` before it.
 fn parse_unary_expression(
     kinds: &[u8],
     types: &[u8],
@@ -400,7 +418,7 @@ fn parse_primary_expression(
     }
 }
 
-// An expression in parentheses, of which the first is taken.
+// An expression in parentheses, of which the left one is taken.
 fn group(
     kinds: &[u8],
     types: &[u8],
@@ -487,7 +505,7 @@ fn parse_reference(
     }
 }
 
-// `..` and an expression, if they follow. Rust: parse_primary_expression.
+// `..` and an expression, if they follow. The Rust has this at the end of parse_primary_expression.
 fn advance(
     kinds: &[u8],
     types: &[u8],
@@ -523,8 +541,8 @@ fn advance(
     push_binary(node_kinds, node_loads, after, used, left, op, cursor, root)
 }
 
-// A list whose opening token is taken. Rust: parse_rest_of_arguments, parse_rest_of_structural and the elements in
-// primary.
+// Arguments, fields or elements, whose opening token is taken. The Rust has a loop for each, in parse_rest_of_arguments,
+// parse_rest_of_structural and parse_primary_expression.
 fn parse_rest_of_list(
     kinds: &[u8],
     types: &[u8],
@@ -644,7 +662,7 @@ fn item(
     )
 }
 
-// A field: a name, and a colon with an expression or nothing; and what stands after it. Rust: parse_rest_of_structural.
+// A field: a name, and a colon with an expression or nothing; and what stands after it.
 fn field(
     kinds: &[u8],
     types: &[u8],

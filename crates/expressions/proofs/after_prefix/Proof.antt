@@ -2,8 +2,6 @@ use Rattle.expressions.proofs.Laws.{prefix-next, prefix-none, pipe, exc
 use borrow.Author.Needs.{needs}
 use Rattle.expressions.proofs.after_prefix.Statement.{statement}
 use Rattle.expressions.proofs.after_prefix.Tie as tie
-use Rattle.expressions.proofs.after_prefix.Reads as reads
-use Rattle.expressions.proofs.after_prefix.Lts as lts
 
 add-t5 : tie.Need-add-t5
 add-t5 c = search needs

@@ -2,10 +2,6 @@ use Rattle.expressions.proofs.Laws.{length-ends, prefix-ends, primary-e
 use borrow.Author.Needs.{needs}
 use Rattle.expressions.proofs.finish_unary.Statement.{statement}
 use Rattle.expressions.proofs.finish_unary.Tie as tie
-use Rattle.expressions.proofs.finish_unary.Reads as reads
-use Rattle.expressions.proofs.finish_unary.Lts as lts
-use Rattle.operators.proofs.push_prefix.Reads as push-prefix-reads
-use Rattle.references.proofs.push_closed.Reads as push-closed-reads
 
 push-closed-requires : tie.Need-push-closed-requires
 push-closed-requires c κs = search needs

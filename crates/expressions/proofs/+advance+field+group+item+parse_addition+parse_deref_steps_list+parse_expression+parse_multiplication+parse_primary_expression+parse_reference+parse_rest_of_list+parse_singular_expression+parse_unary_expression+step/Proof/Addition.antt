@@ -1,27 +1,35 @@
-use mathlib.Core.Path.{refl}
-use Rattle.codes.specs.Answer.{nodes}
-use Rattle.expressions.proofs.Bounds.{term-slots, past-term}
-use Rattle.expressions.proofs.Operands.{Terms, first-term, sum-stopped, sum-refused, sum-read, sum-sized, sum-less, next-term}
-use borrow.Author.Needs.{needs}
+use mathlib.Core.Path.{refl, _≡_}
 use Prim.Native.Nat.{ℕ, _-_}
+use borrow.Author.Needs.{needs}
 use lib.ListN.{length}
-use Rattle.codes.specs.Answer.{Sized}
-use mathlib.Core.Path.{_≡_}
-use Rattle.expressions.proofs.parse_addition.Reads as addition
-use Rattle.expressions.proofs.+advance+field+group+item+parse_addition+parse_deref_steps_list+parse_expression+parse_multiplication+parse_primary_expression+parse_reference+parse_rest_of_list+parse_singular_expression+parse_unary_expression+step.Lts-parse_addition as addition-lts
-use Rattle.expressions.proofs.parse_multiplication.Reads as multiplication
+use Rattle.codes.specs.Answer.{nodes, Sized}
 use Rattle.operators.proofs.join_term.Reads as join-term-reads
 use Rattle.operators.proofs.takes_unary.Reads as takes-unary-reads
+use Rattle.expressions.proofs.Bounds.{term-slots, past-term}
+use Rattle.expressions.proofs.Operands.{Terms, first-term, sum-stopped, sum-refused, sum-read, sum-sized}
+use Rattle.expressions.proofs.Operands.{sum-less, next-term}
+use Rattle.expressions.proofs.parse_addition.Reads as addition
+use Rattle.expressions.proofs.parse_multiplication.Reads as multiplication
+use Rattle.expressions.proofs.+advance+field+group+item+parse_addition+parse_deref_steps_list+parse_expression+parse_multiplication+parse_primary_expression+parse_reference+parse_rest_of_list+parse_singular_expression+parse_unary_expression+step.Lts-parse_addition as addition-lts
 use Rattle.expressions.proofs.+advance+field+group+item+parse_addition+parse_deref_steps_list+parse_expression+parse_multiplication+parse_primary_expression+parse_reference+parse_rest_of_list+parse_singular_expression+parse_unary_expression+step.Proof.Shared.{addition-at, multiplication-below}
 
 abbrev calls : ℕ → addition-lts.Claims
-calls t = (takes-unary-reads.Asked, takes-unary-reads.Learnt, multiplication-below t, multiplication.Post, join-term-reads.Asked, join-term-reads.Learnt)
+calls t = (
+  takes-unary-reads.Asked,
+  takes-unary-reads.Learnt,
+  multiplication-below t,
+  multiplication.Post,
+  join-term-reads.Asked,
+  join-term-reads.Learnt,
+)
 
 abbrev Inv-loop : addition-lts.InvT-loop
-Inv-loop kinds types node-kinds₀ node-loads₀ count unused pending₀ place₀ used₀ node-kinds node-loads pending place used =
+Inv-loop kinds types node-kinds₀ node-loads₀ count unused pending₀ place₀ used₀ node-kinds node-loads pending place
+    used =
     (length node-kinds ≡ length node-kinds₀) × (length node-loads ≡ length node-loads₀) ×
     Sized kinds types node-kinds node-loads place used ×
-    Terms kinds types unused place₀ (nodes node-kinds₀ node-loads₀ used₀) pending place (nodes node-kinds node-loads used)
+    Terms kinds types unused place₀ (nodes node-kinds₀ node-loads₀ used₀) pending place
+    (nodes node-kinds node-loads used)
 
 abbrev μ-loop : addition-lts.MeasureT-loop
 μ-loop kinds types node-kinds₀ node-loads₀ count unused pending₀ place₀ used₀ node-kinds node-loads pending place used =
@@ -30,7 +38,8 @@ abbrev μ-loop : addition-lts.MeasureT-loop
 returns : (t : ℕ) → addition-lts.Need-returns (calls t) (addition-at t) addition.Post Inv-loop μ-loop
 returns t c = search (needs, sum-stopped)
 
-join-term-requires : (t : ℕ) → addition-lts.Need-join-term-requires (calls t) (addition-at t) addition.Post Inv-loop μ-loop
+join-term-requires : (t : ℕ) →
+    addition-lts.Need-join-term-requires (calls t) (addition-at t) addition.Post Inv-loop μ-loop
 join-term-requires t c κs = (search (needs, term-slots), search (needs, past-term))
 
 loop-less : (t : ℕ) → addition-lts.Need-loop-less (calls t) (addition-at t) addition.Post Inv-loop μ-loop

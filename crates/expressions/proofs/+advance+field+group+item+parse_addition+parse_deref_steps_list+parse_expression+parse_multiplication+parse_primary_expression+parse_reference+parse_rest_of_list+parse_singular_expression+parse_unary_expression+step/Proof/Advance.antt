@@ -1,17 +1,24 @@
-use borrow.Author.Needs.{needs}
-use Rattle.expressions.proofs.Bounds.{advance-slots}
-use Rattle.tokens.proofs.Bounds.{past-optional}
-use Rattle.expressions.proofs.Laws.{advance-none, advance-stopped, advance-read}
 use Prim.Native.Nat.{ℕ}
-use Rattle.expressions.proofs.advance.Reads as advance
-use Rattle.expressions.proofs.+advance+field+group+item+parse_addition+parse_deref_steps_list+parse_expression+parse_multiplication+parse_primary_expression+parse_reference+parse_rest_of_list+parse_singular_expression+parse_unary_expression+step.Lts-advance as advance-lts
-use Rattle.expressions.proofs.parse_expression.Reads as expression
+use borrow.Author.Needs.{needs}
+use Rattle.tokens.proofs.Bounds.{past-optional}
 use Rattle.operators.proofs.push_binary.Reads as push-binary-reads
 use Rattle.tokens.proofs.consume_optional.Reads as consume-optional-reads
+use Rattle.expressions.proofs.Bounds.{advance-slots}
+use Rattle.expressions.proofs.Laws.{advance-none, advance-stopped, advance-read}
+use Rattle.expressions.proofs.advance.Reads as advance
+use Rattle.expressions.proofs.parse_expression.Reads as expression
+use Rattle.expressions.proofs.+advance+field+group+item+parse_addition+parse_deref_steps_list+parse_expression+parse_multiplication+parse_primary_expression+parse_reference+parse_rest_of_list+parse_singular_expression+parse_unary_expression+step.Lts-advance as advance-lts
 use Rattle.expressions.proofs.+advance+field+group+item+parse_addition+parse_deref_steps_list+parse_expression+parse_multiplication+parse_primary_expression+parse_reference+parse_rest_of_list+parse_singular_expression+parse_unary_expression+step.Proof.Shared.{advance-at, expression-below}
 
 abbrev calls : ℕ → advance-lts.Claims
-calls t = (consume-optional-reads.Asked, consume-optional-reads.Learnt, expression-below t, expression.Post, push-binary-reads.Asked, push-binary-reads.Learnt)
+calls t = (
+  consume-optional-reads.Asked,
+  consume-optional-reads.Learnt,
+  expression-below t,
+  expression.Post,
+  push-binary-reads.Asked,
+  push-binary-reads.Learnt,
+)
 
 returns : (t : ℕ) → advance-lts.Need-returns (calls t) (advance-at t) advance.Post
 returns t c = search (needs, advance-none)

@@ -1,41 +1,52 @@
-use Rattle.expressions.proofs.Items.{none-fits}
-use mathlib.Core.Path.{refl}
-use Prim.Native.Nat.{_≤_}
-use Rattle.rules.specs.Codes.Limit as Limit
-use Rattle.nodes.specs.Answer.{past}
-use Rattle.codes.specs.Answer.{nodes}
-use Rattle.expressions.proofs.Steps.{Steps, first-step, more-sized, more-fits, last-slots, last-fits, steps-exceeded, steps-refused, steps-read, next-step}
+use mathlib.Core.Path.{refl, _≡_}
+use Prim.Native.Nat.{_≤_, ℕ, _-_}
 use borrow.Author.Needs.{needs}
-use Prim.Native.Nat.{ℕ, _-_}
 use lib.ListN.{length}
-use Rattle.codes.specs.Answer.{Sized}
-use mathlib.Core.Path.{_≡_}
-use Rattle.expressions.proofs.parse_deref_steps_list.Reads as deref-steps
-use Rattle.expressions.proofs.+advance+field+group+item+parse_addition+parse_deref_steps_list+parse_expression+parse_multiplication+parse_primary_expression+parse_reference+parse_rest_of_list+parse_singular_expression+parse_unary_expression+step.Lts-parse_deref_steps_list as deref-steps-lts
-use Rattle.expressions.proofs.step.Reads as step
+use Rattle.nodes.specs.Answer.{past}
+use Rattle.codes.specs.Answer.{nodes, Sized}
 use Rattle.nodes.proofs.start_list.Reads as start-list-reads
 use Rattle.references.proofs.exceeded.Reads as exceeded-reads
 use Rattle.references.proofs.push_deref.Reads as push-deref-reads
+use Rattle.rules.specs.Codes.Limit as Limit
+use Rattle.expressions.proofs.Items.{none-fits}
+use Rattle.expressions.proofs.Steps.{Steps, first-step, more-sized, more-fits, last-slots, last-fits}
+use Rattle.expressions.proofs.Steps.{steps-exceeded, steps-refused, steps-read, next-step}
+use Rattle.expressions.proofs.parse_deref_steps_list.Reads as deref-steps
+use Rattle.expressions.proofs.step.Reads as step
+use Rattle.expressions.proofs.+advance+field+group+item+parse_addition+parse_deref_steps_list+parse_expression+parse_multiplication+parse_primary_expression+parse_reference+parse_rest_of_list+parse_singular_expression+parse_unary_expression+step.Lts-parse_deref_steps_list as deref-steps-lts
 use Rattle.expressions.proofs.+advance+field+group+item+parse_addition+parse_deref_steps_list+parse_expression+parse_multiplication+parse_primary_expression+parse_reference+parse_rest_of_list+parse_singular_expression+parse_unary_expression+step.Proof.Shared.{deref-steps-at, step-below}
 
 abbrev calls : ℕ → deref-steps-lts.Claims
-calls t = (start-list-reads.Asked, start-list-reads.Learnt, step-below t, step.Post, push-deref-reads.Asked, push-deref-reads.Learnt, exceeded-reads.Asked, exceeded-reads.Learnt)
+calls t = (
+  start-list-reads.Asked,
+  start-list-reads.Learnt,
+  step-below t,
+  step.Post,
+  push-deref-reads.Asked,
+  push-deref-reads.Learnt,
+  exceeded-reads.Asked,
+  exceeded-reads.Learnt,
+)
 
 abbrev Inv-loop : deref-steps-lts.InvT-loop
-Inv-loop kinds types node-kinds₀ node-loads₀ cursor count unused start depth name list₀ steps₀ place₀ used₀ node-kinds node-loads list steps place used =
+Inv-loop kinds types node-kinds₀ node-loads₀ cursor count unused start depth name list₀ steps₀ place₀ used₀
+    node-kinds node-loads list steps place used =
     (length node-kinds ≡ length node-kinds₀) × (length node-loads ≡ length node-loads₀) ×
     Sized kinds types node-kinds node-loads place used × (past list ≤ used) × (steps ≤ Limit.ReferenceDepth) ×
     Steps kinds types unused (start .0) depth (name .0) place₀ (nodes node-kinds₀ node-loads₀ used₀) steps list place
     (nodes node-kinds node-loads used)
 
 abbrev μ-loop : deref-steps-lts.MeasureT-loop
-μ-loop kinds types node-kinds₀ node-loads₀ cursor count unused start depth name list₀ steps₀ place₀ used₀ node-kinds node-loads list steps place used =
+μ-loop kinds types node-kinds₀ node-loads₀ cursor count unused start depth name list₀ steps₀ place₀ used₀ node-kinds
+    node-loads list steps place used =
     Limit.ReferenceDepth - steps
 
-step-requires : (t : ℕ) → deref-steps-lts.Need-step-requires (calls t) (deref-steps-at t) deref-steps.Post Inv-loop μ-loop
+step-requires : (t : ℕ) →
+    deref-steps-lts.Need-step-requires (calls t) (deref-steps-at t) deref-steps.Post Inv-loop μ-loop
 step-requires t c κs = (search needs, (search needs, search needs))
 
-push-deref-requires : (t : ℕ) → deref-steps-lts.Need-push-deref-requires (calls t) (deref-steps-at t) deref-steps.Post Inv-loop μ-loop
+push-deref-requires : (t : ℕ) →
+    deref-steps-lts.Need-push-deref-requires (calls t) (deref-steps-at t) deref-steps.Post Inv-loop μ-loop
 push-deref-requires t c κs = (search (needs, last-slots), search (needs, last-fits))
 
 returns : (t : ℕ) → deref-steps-lts.Need-returns (calls t) (deref-steps-at t) deref-steps.Post Inv-loop μ-loop
@@ -48,7 +59,14 @@ loop-less : (t : ℕ) → deref-steps-lts.Need-loop-less (calls t) (deref-steps-
 loop-less t c = search needs
 
 loop-again : (t : ℕ) → deref-steps-lts.Need-loop-again (calls t) (deref-steps-at t) deref-steps.Post Inv-loop μ-loop
-loop-again t c = (search needs, search needs, search (needs, more-sized), search (needs, more-fits), search needs, search (needs, next-step))
+loop-again t c = (
+  search needs,
+  search needs,
+  search (needs, more-sized),
+  search (needs, more-fits),
+  search needs,
+  search (needs, next-step),
+)
 
 returns-3 : (t : ℕ) → deref-steps-lts.Need-returns-3 (calls t) (deref-steps-at t) deref-steps.Post Inv-loop μ-loop
 returns-3 t c = search (needs, steps-exceeded)

@@ -1,6 +1,6 @@
+use Prim.Native.Nat.{ℕ}
 use borrow.Author.Needs.{needs}
 use Rattle.expressions.proofs.Laws.{too-deep, expression-read}
-use Prim.Native.Nat.{ℕ}
 use Rattle.expressions.proofs.parse_addition.Reads as addition
 use Rattle.expressions.proofs.parse_expression.Reads as expression
 use Rattle.expressions.proofs.+advance+field+group+item+parse_addition+parse_deref_steps_list+parse_expression+parse_multiplication+parse_primary_expression+parse_reference+parse_rest_of_list+parse_singular_expression+parse_unary_expression+step.Lts-parse_expression as expression-lts

@@ -1,11 +1,11 @@
+use Prim.Native.Nat.{ℕ}
 use borrow.Author.Needs.{needs}
+use Rattle.references.proofs.push_closed.Reads as push-closed-reads
 use Rattle.expressions.proofs.Bounds.{past-expression, expression-slots}
 use Rattle.expressions.proofs.Laws.{group-stopped, group-read}
-use Prim.Native.Nat.{ℕ}
 use Rattle.expressions.proofs.parse_expression.Reads as expression
 use Rattle.expressions.proofs.group.Reads as group
 use Rattle.expressions.proofs.+advance+field+group+item+parse_addition+parse_deref_steps_list+parse_expression+parse_multiplication+parse_primary_expression+parse_reference+parse_rest_of_list+parse_singular_expression+parse_unary_expression+step.Lts-group as group-lts
-use Rattle.references.proofs.push_closed.Reads as push-closed-reads
 use Rattle.expressions.proofs.+advance+field+group+item+parse_addition+parse_deref_steps_list+parse_expression+parse_multiplication+parse_primary_expression+parse_reference+parse_rest_of_list+parse_singular_expression+parse_unary_expression+step.Proof.Shared.{expression-below, group-at}
 
 abbrev calls : ℕ → group-lts.Claims

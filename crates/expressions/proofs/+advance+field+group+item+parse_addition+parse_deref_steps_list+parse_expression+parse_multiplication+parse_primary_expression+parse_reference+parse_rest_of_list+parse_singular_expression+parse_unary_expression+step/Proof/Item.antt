@@ -1,17 +1,26 @@
-use Rattle.expressions.proofs.Bounds.{past-expression, expression-slots, expression-kept, item-sized}
-use borrow.Author.Needs.{needs}
-use Rattle.expressions.proofs.Laws.{item-none, item-field, item-stopped, item-read}
 use Prim.Native.Nat.{ℕ}
+use borrow.Author.Needs.{needs}
+use Rattle.lists.proofs.finish_item.Reads as finish-item-reads
+use Rattle.tokens.proofs.consume_optional.Reads as consume-optional-reads
+use Rattle.expressions.proofs.Bounds.{past-expression, expression-slots, expression-kept, item-sized}
+use Rattle.expressions.proofs.Laws.{item-none, item-field, item-stopped, item-read}
 use Rattle.expressions.proofs.parse_expression.Reads as expression
 use Rattle.expressions.proofs.field.Reads as field
 use Rattle.expressions.proofs.item.Reads as item
 use Rattle.expressions.proofs.+advance+field+group+item+parse_addition+parse_deref_steps_list+parse_expression+parse_multiplication+parse_primary_expression+parse_reference+parse_rest_of_list+parse_singular_expression+parse_unary_expression+step.Lts-item as item-lts
-use Rattle.lists.proofs.finish_item.Reads as finish-item-reads
-use Rattle.tokens.proofs.consume_optional.Reads as consume-optional-reads
 use Rattle.expressions.proofs.+advance+field+group+item+parse_addition+parse_deref_steps_list+parse_expression+parse_multiplication+parse_primary_expression+parse_reference+parse_rest_of_list+parse_singular_expression+parse_unary_expression+step.Proof.Shared.{expression-below, field-below, item-at}
 
 abbrev calls : ℕ → item-lts.Claims
-calls t = (consume-optional-reads.Asked, consume-optional-reads.Learnt, field-below t, field.Post, expression-below t, expression.Post, finish-item-reads.Asked, finish-item-reads.Learnt)
+calls t = (
+  consume-optional-reads.Asked,
+  consume-optional-reads.Learnt,
+  field-below t,
+  field.Post,
+  expression-below t,
+  expression.Post,
+  finish-item-reads.Asked,
+  finish-item-reads.Learnt,
+)
 
 returns : (t : ℕ) → item-lts.Need-returns (calls t) (item-at t) item.Post
 returns t c = search (needs, item-none)
@@ -30,10 +39,15 @@ returns-3 t c = search (needs, item-stopped)
 
 finish-item-requires : (t : ℕ) → item-lts.Need-finish-item-requires (calls t) (item-at t) item.Post
 finish-item-requires t c κs =
-    let p = c .before .before .before .before .before .before .before .before .before .before .before .before .before .before .before .before .before .before .before .before .pre .1 in
-    let z = item-sized _ (c .before .before .before .before .before .before .before .before .before .before .before .before .before .before .before .consume-optional .ensures) (c .before .before .before .before .before .before .before .before .before .before .before .before .before .if1 .left) (p .0) in
-    let g = c .before .before .before .before .before .before .before .before .before .parse-expression .ensures in
-    let q = c .before .before .before .item .given .1 in
+    let c₁ = c .before .before .before in
+    let c₂ = c₁ .before .before .before .before .before .before in
+    let c₃ = c₂ .before .before .before .before in
+    let c₄ = c₃ .before .before in
+    let c₅ = c₄ .before .before .before .before .before in
+    let p = c₅ .pre .1 in
+    let z = item-sized _ (c₄ .consume-optional .ensures) (c₃ .if1 .left) (p .0) in
+    let g = c₂ .parse-expression .ensures in
+    let q = c₁ .item .given .1 in
     (past-expression _ g q z, expression-slots _ g q z, expression-kept _ g q z (p .1), expression-kept _ g q z (p .2))
 
 returns-4 : (t : ℕ) → item-lts.Need-returns-4 (calls t) (item-at t) item.Post

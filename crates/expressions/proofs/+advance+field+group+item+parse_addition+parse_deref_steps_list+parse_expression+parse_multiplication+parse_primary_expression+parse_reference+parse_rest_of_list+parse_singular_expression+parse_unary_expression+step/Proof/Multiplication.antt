@@ -1,54 +1,62 @@
-use mathlib.Core.Path.{refl}
-use Rattle.codes.specs.Answer.{nodes}
-use Rattle.expressions.proofs.Bounds.{factor-slots, past-factor}
-use Rattle.expressions.proofs.Operands.{Factors, first-factor, product-stopped, product-bare, product-refused, product-read, product-sized, product-less, next-factor}
-use borrow.Author.Needs.{needs}
+use mathlib.Core.Path.{refl, _≡_}
 use Prim.Native.Nat.{ℕ, _-_}
+use borrow.Author.Needs.{needs}
 use lib.ListN.{length}
-use Rattle.codes.specs.Answer.{Sized}
-use mathlib.Core.Path.{_≡_}
-use Rattle.expressions.proofs.parse_multiplication.Reads as multiplication
-use Rattle.expressions.proofs.+advance+field+group+item+parse_addition+parse_deref_steps_list+parse_expression+parse_multiplication+parse_primary_expression+parse_reference+parse_rest_of_list+parse_singular_expression+parse_unary_expression+step.Lts-parse_multiplication as multiplication-lts
-use Rattle.expressions.proofs.parse_singular_expression.Reads as singular
+use Rattle.codes.specs.Answer.{nodes, Sized}
 use Rattle.operators.proofs.join_factor.Reads as join-factor-reads
+use Rattle.expressions.proofs.Bounds.{factor-slots, past-factor}
+use Rattle.expressions.proofs.Operands.{Factors, first-factor, product-stopped, product-bare, product-refused}
+use Rattle.expressions.proofs.Operands.{product-read, product-sized, product-less, next-factor}
+use Rattle.expressions.proofs.parse_multiplication.Reads as multiplication
+use Rattle.expressions.proofs.parse_singular_expression.Reads as singular
+use Rattle.expressions.proofs.+advance+field+group+item+parse_addition+parse_deref_steps_list+parse_expression+parse_multiplication+parse_primary_expression+parse_reference+parse_rest_of_list+parse_singular_expression+parse_unary_expression+step.Lts-parse_multiplication as multiplication-lts
 use Rattle.expressions.proofs.+advance+field+group+item+parse_addition+parse_deref_steps_list+parse_expression+parse_multiplication+parse_primary_expression+parse_reference+parse_rest_of_list+parse_singular_expression+parse_unary_expression+step.Proof.Shared.{multiplication-at, singular-below}
 
 abbrev calls : ℕ → multiplication-lts.Claims
 calls t = (singular-below t, singular.Post, join-factor-reads.Asked, join-factor-reads.Learnt)
 
 abbrev Inv-loop : multiplication-lts.InvT-loop
-Inv-loop kinds types node-kinds₀ node-loads₀ count unused bare pending₀ place₀ used₀ node-kinds node-loads pending place used =
+Inv-loop kinds types node-kinds₀ node-loads₀ count unused bare pending₀ place₀ used₀ node-kinds node-loads pending
+    place used =
     (length node-kinds ≡ length node-kinds₀) × (length node-loads ≡ length node-loads₀) ×
     Sized kinds types node-kinds node-loads place used ×
     Factors kinds types unused bare place₀ (nodes node-kinds₀ node-loads₀ used₀) pending place
     (nodes node-kinds node-loads used)
 
 abbrev μ-loop : multiplication-lts.MeasureT-loop
-μ-loop kinds types node-kinds₀ node-loads₀ count unused bare pending₀ place₀ used₀ node-kinds node-loads pending place used =
+μ-loop kinds types node-kinds₀ node-loads₀ count unused bare pending₀ place₀ used₀ node-kinds node-loads pending
+    place used =
     length kinds - place
 
 returns : (t : ℕ) → multiplication-lts.Need-returns (calls t) (multiplication-at t) multiplication.Post Inv-loop μ-loop
 returns t c = search (needs, product-stopped)
 
-returns-2 : (t : ℕ) → multiplication-lts.Need-returns-2 (calls t) (multiplication-at t) multiplication.Post Inv-loop μ-loop
+returns-2 : (t : ℕ) →
+    multiplication-lts.Need-returns-2 (calls t) (multiplication-at t) multiplication.Post Inv-loop μ-loop
 returns-2 t c = search (needs, product-bare)
 
-join-factor-requires : (t : ℕ) → multiplication-lts.Need-join-factor-requires (calls t) (multiplication-at t) multiplication.Post Inv-loop μ-loop
+join-factor-requires : (t : ℕ) →
+    multiplication-lts.Need-join-factor-requires (calls t) (multiplication-at t) multiplication.Post Inv-loop μ-loop
 join-factor-requires t c κs = (search (needs, factor-slots), search (needs, past-factor))
 
-loop-less : (t : ℕ) → multiplication-lts.Need-loop-less (calls t) (multiplication-at t) multiplication.Post Inv-loop μ-loop
+loop-less : (t : ℕ) →
+    multiplication-lts.Need-loop-less (calls t) (multiplication-at t) multiplication.Post Inv-loop μ-loop
 loop-less t c = search (needs, product-less)
 
-loop-again : (t : ℕ) → multiplication-lts.Need-loop-again (calls t) (multiplication-at t) multiplication.Post Inv-loop μ-loop
+loop-again : (t : ℕ) →
+    multiplication-lts.Need-loop-again (calls t) (multiplication-at t) multiplication.Post Inv-loop μ-loop
 loop-again t c = (search needs, search needs, search (needs, product-sized), search (needs, next-factor))
 
-returns-3 : (t : ℕ) → multiplication-lts.Need-returns-3 (calls t) (multiplication-at t) multiplication.Post Inv-loop μ-loop
+returns-3 : (t : ℕ) →
+    multiplication-lts.Need-returns-3 (calls t) (multiplication-at t) multiplication.Post Inv-loop μ-loop
 returns-3 t c = search (needs, product-read)
 
-returns-4 : (t : ℕ) → multiplication-lts.Need-returns-4 (calls t) (multiplication-at t) multiplication.Post Inv-loop μ-loop
+returns-4 : (t : ℕ) →
+    multiplication-lts.Need-returns-4 (calls t) (multiplication-at t) multiplication.Post Inv-loop μ-loop
 returns-4 t c = search (needs, product-refused)
 
-loop-holds : (t : ℕ) → multiplication-lts.Need-loop-holds (calls t) (multiplication-at t) multiplication.Post Inv-loop μ-loop
+loop-holds : (t : ℕ) →
+    multiplication-lts.Need-loop-holds (calls t) (multiplication-at t) multiplication.Post Inv-loop μ-loop
 loop-holds t c = (refl, refl, search needs, first-factor _ _ _ _ _ _)
 
 pub spec : {M : Type 1} (t : ℕ) → multiplication-lts.Closed (calls t) (multiplication-at t) multiplication.Post M

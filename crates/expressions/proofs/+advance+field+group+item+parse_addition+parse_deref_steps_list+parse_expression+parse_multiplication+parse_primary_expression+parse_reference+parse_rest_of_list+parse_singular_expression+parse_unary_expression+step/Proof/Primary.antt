@@ -1,21 +1,36 @@
-use borrow.Author.Needs.{needs}
-use Rattle.expressions.proofs.Bounds.{list-sized, reference-sized, group-sized, name-slots}
-use Rattle.expressions.proofs.Laws.{list-opened, reference-opened, name-opened, group-opened, literal-opened, primary-refused}
 use Prim.Native.Nat.{ℕ}
-use Rattle.expressions.proofs.parse_rest_of_list.Reads as rest-of-list
-use Rattle.expressions.proofs.group.Reads as group
-use Rattle.expressions.proofs.parse_primary_expression.Reads as primary
-use Rattle.expressions.proofs.+advance+field+group+item+parse_addition+parse_deref_steps_list+parse_expression+parse_multiplication+parse_primary_expression+parse_reference+parse_rest_of_list+parse_singular_expression+parse_unary_expression+step.Lts-parse_primary_expression as primary-lts
-use Rattle.expressions.proofs.parse_reference.Reads as reference
+use borrow.Author.Needs.{needs}
 use Rattle.literals.proofs.parse_literal.Reads as parse-literal-reads
 use Rattle.openings.proofs.parse_opening.Reads as parse-opening-reads
 use Rattle.references.proofs.push_name.Reads as push-name-reads
+use Rattle.expressions.proofs.Bounds.{list-sized, reference-sized, group-sized, name-slots}
+use Rattle.expressions.proofs.Laws.{list-opened, reference-opened, name-opened, group-opened, literal-opened}
+use Rattle.expressions.proofs.Laws.{primary-refused}
+use Rattle.expressions.proofs.parse_rest_of_list.Reads as rest-of-list
+use Rattle.expressions.proofs.group.Reads as group
+use Rattle.expressions.proofs.parse_primary_expression.Reads as primary
+use Rattle.expressions.proofs.parse_reference.Reads as reference
+use Rattle.expressions.proofs.+advance+field+group+item+parse_addition+parse_deref_steps_list+parse_expression+parse_multiplication+parse_primary_expression+parse_reference+parse_rest_of_list+parse_singular_expression+parse_unary_expression+step.Lts-parse_primary_expression as primary-lts
 use Rattle.expressions.proofs.+advance+field+group+item+parse_addition+parse_deref_steps_list+parse_expression+parse_multiplication+parse_primary_expression+parse_reference+parse_rest_of_list+parse_singular_expression+parse_unary_expression+step.Proof.Shared.{rest-of-list-below, group-below, primary-at, reference-below}
 
 abbrev calls : ℕ → primary-lts.Claims
-calls t = (parse-opening-reads.Asked, parse-opening-reads.Learnt, rest-of-list-below t, rest-of-list.Post, reference-below t, reference.Post, push-name-reads.Asked, push-name-reads.Learnt, group-below t, group.Post, parse-literal-reads.Asked, parse-literal-reads.Learnt)
+calls t = (
+  parse-opening-reads.Asked,
+  parse-opening-reads.Learnt,
+  rest-of-list-below t,
+  rest-of-list.Post,
+  reference-below t,
+  reference.Post,
+  push-name-reads.Asked,
+  push-name-reads.Learnt,
+  group-below t,
+  group.Post,
+  parse-literal-reads.Asked,
+  parse-literal-reads.Learnt,
+)
 
-parse-rest-of-list-requires : (t : ℕ) → primary-lts.Need-parse-rest-of-list-requires (calls t) (primary-at t) primary.Post
+parse-rest-of-list-requires : (t : ℕ) →
+    primary-lts.Need-parse-rest-of-list-requires (calls t) (primary-at t) primary.Post
 parse-rest-of-list-requires t c κs = (search needs, search (needs, list-sized))
 
 parse-reference-requires : (t : ℕ) → primary-lts.Need-parse-reference-requires (calls t) (primary-at t) primary.Post

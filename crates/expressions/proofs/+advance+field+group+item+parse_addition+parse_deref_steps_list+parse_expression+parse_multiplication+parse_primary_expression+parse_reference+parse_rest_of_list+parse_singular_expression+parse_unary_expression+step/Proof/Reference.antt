@@ -1,7 +1,7 @@
+use Prim.Native.Nat.{ℕ}
 use borrow.Author.Needs.{needs}
 use Rattle.expressions.proofs.Bounds.{after-deref}
 use Rattle.expressions.proofs.Laws.{reference-stopped, reference-alone, reference-advanced}
-use Prim.Native.Nat.{ℕ}
 use Rattle.expressions.proofs.advance.Reads as advance
 use Rattle.expressions.proofs.parse_deref_steps_list.Reads as deref-steps
 use Rattle.expressions.proofs.parse_reference.Reads as reference

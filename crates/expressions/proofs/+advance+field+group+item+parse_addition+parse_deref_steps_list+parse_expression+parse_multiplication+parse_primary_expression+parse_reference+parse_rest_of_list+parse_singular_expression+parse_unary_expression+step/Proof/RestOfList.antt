@@ -1,48 +1,73 @@
-use Rattle.expressions.proofs.Items.{none-fits}
-use mathlib.Core.Path.{refl}
-use Prim.Native.Nat.{_≤_}
-use Rattle.nodes.specs.Answer.{past}
-use Rattle.codes.specs.Answer.{nodes}
-use Rattle.expressions.proofs.Items.{Items, first-item, list-refused, list-read, list-slots, list-fits, turn-sized, turn-fits, turn-counts, turn-less, next-item}
+use mathlib.Core.Path.{refl, _≡_}
+use Prim.Native.Nat.{_≤_, ℕ, _-_}
 use borrow.Author.Needs.{needs}
-use Prim.Native.Nat.{ℕ, _-_}
 use lib.ListN.{length}
-use Rattle.codes.specs.Answer.{Sized}
-use mathlib.Core.Path.{_≡_}
-use Rattle.expressions.proofs.parse_rest_of_list.Reads as rest-of-list
-use Rattle.expressions.proofs.+advance+field+group+item+parse_addition+parse_deref_steps_list+parse_expression+parse_multiplication+parse_primary_expression+parse_reference+parse_rest_of_list+parse_singular_expression+parse_unary_expression+step.Lts-parse_rest_of_list as rest-of-list-lts
-use Rattle.expressions.proofs.item.Reads as item
+use Rattle.nodes.specs.Answer.{past}
+use Rattle.codes.specs.Answer.{nodes, Sized}
 use Rattle.lists.proofs.closing_of.Reads as closing-of-reads
 use Rattle.lists.proofs.finish_list.Reads as finish-list-reads
 use Rattle.nodes.proofs.start_list.Reads as start-list-reads
+use Rattle.expressions.proofs.Items.{none-fits, Items, first-item, list-refused, list-read, list-slots}
+use Rattle.expressions.proofs.Items.{list-fits, turn-sized, turn-fits, turn-counts, turn-less, next-item}
+use Rattle.expressions.proofs.parse_rest_of_list.Reads as rest-of-list
+use Rattle.expressions.proofs.item.Reads as item
+use Rattle.expressions.proofs.+advance+field+group+item+parse_addition+parse_deref_steps_list+parse_expression+parse_multiplication+parse_primary_expression+parse_reference+parse_rest_of_list+parse_singular_expression+parse_unary_expression+step.Lts-parse_rest_of_list as rest-of-list-lts
 use Rattle.expressions.proofs.+advance+field+group+item+parse_addition+parse_deref_steps_list+parse_expression+parse_multiplication+parse_primary_expression+parse_reference+parse_rest_of_list+parse_singular_expression+parse_unary_expression+step.Proof.Shared.{rest-of-list-at, item-below}
 
 abbrev calls : ℕ → rest-of-list-lts.Claims
-calls t = (closing-of-reads.Asked, closing-of-reads.Learnt, start-list-reads.Asked, start-list-reads.Learnt, item-below t, item.Post, finish-list-reads.Asked, finish-list-reads.Learnt)
+calls t = (
+  closing-of-reads.Asked,
+  closing-of-reads.Learnt,
+  start-list-reads.Asked,
+  start-list-reads.Learnt,
+  item-below t,
+  item.Post,
+  finish-list-reads.Asked,
+  finish-list-reads.Learnt,
+)
 
 abbrev Inv-loop : rest-of-list-lts.InvT-loop
-Inv-loop kinds types node-kinds₀ node-loads₀ count unused owner closing list₀ items₀ place₀ used₀ node-kinds node-loads list items place used =
+Inv-loop kinds types node-kinds₀ node-loads₀ count unused owner closing list₀ items₀ place₀ used₀ node-kinds
+    node-loads list items place used =
     (length node-kinds ≡ length node-kinds₀) × (length node-loads ≡ length node-loads₀) ×
     Sized kinds types node-kinds node-loads place used × (past list ≤ used) × (items ≤ used) ×
     Items kinds types unused owner closing place₀ (nodes node-kinds₀ node-loads₀ used₀) list items place
     (nodes node-kinds node-loads used)
 
 abbrev μ-loop : rest-of-list-lts.MeasureT-loop
-μ-loop kinds types node-kinds₀ node-loads₀ count unused owner closing list₀ items₀ place₀ used₀ node-kinds node-loads list items place used =
+μ-loop kinds types node-kinds₀ node-loads₀ count unused owner closing list₀ items₀ place₀ used₀ node-kinds node-loads
+    list items place used =
     length kinds - place
 
-item-requires : (t : ℕ) → rest-of-list-lts.Need-item-requires (calls t) (rest-of-list-at t) rest-of-list.Post Inv-loop μ-loop
+item-requires : (t : ℕ) →
+    rest-of-list-lts.Need-item-requires (calls t) (rest-of-list-at t) rest-of-list.Post Inv-loop μ-loop
 item-requires t c κs = (search needs, (search needs, search needs, search needs))
 
 loop-less : (t : ℕ) → rest-of-list-lts.Need-loop-less (calls t) (rest-of-list-at t) rest-of-list.Post Inv-loop μ-loop
 loop-less t c = search (needs, turn-less)
 
 loop-again : (t : ℕ) → rest-of-list-lts.Need-loop-again (calls t) (rest-of-list-at t) rest-of-list.Post Inv-loop μ-loop
-loop-again t c = (search needs, search needs, search (needs, turn-sized), search (needs, turn-fits), search (needs, turn-counts), search (needs, next-item))
+loop-again t c = (
+  search needs,
+  search needs,
+  search (needs, turn-sized),
+  search (needs, turn-fits),
+  search (needs, turn-counts),
+  search (needs, next-item),
+)
 
-finish-list-requires : (t : ℕ) → rest-of-list-lts.Need-finish-list-requires (calls t) (rest-of-list-at t) rest-of-list.Post Inv-loop μ-loop
-finish-list-requires t c κs = let i = c .before .before .before .before .before .before .before .before .before .before .before .before .loop .inv in
-    (list-slots _ _ _ (c .before .before .before .before .before .before .before .before .before .before .before .before .before .before .before .before .before .before .before .args .owner) _ _ _ _ _ _ (i .5) (c .before .before .before .before .before .before .before .before .before .item .ensures) (i .2) (i .3) (i .4) (c .before .before .before .whole .given .1), search (needs, list-fits))
+finish-list-requires : (t : ℕ) →
+    rest-of-list-lts.Need-finish-list-requires (calls t) (rest-of-list-at t) rest-of-list.Post Inv-loop μ-loop
+finish-list-requires t c κs =
+    let c₁ = c .before .before .before in
+    let c₂ = c₁ .before .before .before .before .before .before in
+    let c₃ = c₂ .before .before .before in
+    let c₄ = c₃ .before .before .before .before .before .before .before in
+    let i = c₃ .loop .inv in (
+      list-slots _ _ _ (c₄ .args .owner) _ _ _ _ _ _ (i .5) (c₂ .item .ensures) (i .2) (i .3) (i .4)
+          (c₁ .whole .given .1),
+      search (needs, list-fits),
+    )
 
 returns : (t : ℕ) → rest-of-list-lts.Need-returns (calls t) (rest-of-list-at t) rest-of-list.Post Inv-loop μ-loop
 returns t c = search (needs, list-read)

@@ -1,7 +1,7 @@
--- How far each reader is from the end of the nesting: nine times what is unused, and its level among those that call each
--- other with as much unused. And what each takes for granted, where the measure is t, and where it is below t.
-use Prim.Native.Nat.{ℕ, _<_, _+_, _*_}
+-- The measure of each reader: nine times the nesting that is unused, and its level among those that call each other with
+-- as much unused. And what each takes for granted where its measure is t, and where it is below t.
 use mathlib.Core.List.{List}
+use Prim.Native.Nat.{ℕ, _<_, _+_, _*_}
 use borrow.Fn.Kinds.{PK, In}
 use borrow.Fn.PlainCycle.{Measures, is, falls, and}
 use Rattle.expressions.proofs.advance.Reads as advance

@@ -1,19 +1,26 @@
-use Rattle.expressions.proofs.Bounds.{after-cast-unary}
-use borrow.Author.Needs.{needs}
-use Rattle.expressions.proofs.Bounds.{past-cast}
-use Rattle.expressions.proofs.Laws.{singular-stopped, singular-bare, singular-read}
 use Prim.Native.Nat.{ℕ}
-use Rattle.expressions.proofs.parse_singular_expression.Reads as singular
-use Rattle.expressions.proofs.+advance+field+group+item+parse_addition+parse_deref_steps_list+parse_expression+parse_multiplication+parse_primary_expression+parse_reference+parse_rest_of_list+parse_singular_expression+parse_unary_expression+step.Lts-parse_singular_expression as singular-lts
-use Rattle.expressions.proofs.parse_unary_expression.Reads as unary
+use borrow.Author.Needs.{needs}
 use Rattle.casts.proofs.finish_singular.Reads as finish-singular-reads
 use Rattle.casts.proofs.optional_cast.Reads as optional-cast-reads
+use Rattle.expressions.proofs.Bounds.{after-cast-unary, past-cast}
+use Rattle.expressions.proofs.Laws.{singular-stopped, singular-bare, singular-read}
+use Rattle.expressions.proofs.parse_singular_expression.Reads as singular
+use Rattle.expressions.proofs.parse_unary_expression.Reads as unary
+use Rattle.expressions.proofs.+advance+field+group+item+parse_addition+parse_deref_steps_list+parse_expression+parse_multiplication+parse_primary_expression+parse_reference+parse_rest_of_list+parse_singular_expression+parse_unary_expression+step.Lts-parse_singular_expression as singular-lts
 use Rattle.expressions.proofs.+advance+field+group+item+parse_addition+parse_deref_steps_list+parse_expression+parse_multiplication+parse_primary_expression+parse_reference+parse_rest_of_list+parse_singular_expression+parse_unary_expression+step.Proof.Shared.{singular-at, unary-below}
 
 abbrev calls : ℕ → singular-lts.Claims
-calls t = (optional-cast-reads.Asked, optional-cast-reads.Learnt, unary-below t, unary.Post, finish-singular-reads.Asked, finish-singular-reads.Learnt)
+calls t = (
+  optional-cast-reads.Asked,
+  optional-cast-reads.Learnt,
+  unary-below t,
+  unary.Post,
+  finish-singular-reads.Asked,
+  finish-singular-reads.Learnt,
+)
 
-parse-unary-expression-requires : (t : ℕ) → singular-lts.Need-parse-unary-expression-requires (calls t) (singular-at t) singular.Post
+parse-unary-expression-requires : (t : ℕ) →
+    singular-lts.Need-parse-unary-expression-requires (calls t) (singular-at t) singular.Post
 parse-unary-expression-requires t c κs = (search needs, search (needs, past-cast))
 
 returns : (t : ℕ) → singular-lts.Need-returns (calls t) (singular-at t) singular.Post
@@ -24,8 +31,12 @@ returns-2 t c = search (needs, singular-bare)
 
 finish-singular-requires : (t : ℕ) → singular-lts.Need-finish-singular-requires (calls t) (singular-at t) singular.Post
 finish-singular-requires t c κs =
-    after-cast-unary _ _ (c .before .before .before .before .before .before .before .before .before .before .before .before .before .before .optional-cast .ensures) (c .before .before .before .before .before .before .before .before .before .before .parse-unary-expression .ensures) (c .before .before .before .before .operand .given .1)
-    (c .before .before .before .before .before .before .before .before .before .before .before .before .before .before .before .before .before .before .before .pre .1)
+    let c₁ = c .before .before .before .before in
+    let c₂ = c₁ .before .before .before .before .before .before in
+    let c₃ = c₂ .before .before .before .before in
+    let c₄ = c₃ .before .before .before .before .before in
+    after-cast-unary _ _ (c₃ .optional-cast .ensures) (c₂ .parse-unary-expression .ensures) (c₁ .operand .given .1)
+    (c₄ .pre .1)
 
 returns-3 : (t : ℕ) → singular-lts.Need-returns-3 (calls t) (singular-at t) singular.Post
 returns-3 t c = search (needs, singular-read)

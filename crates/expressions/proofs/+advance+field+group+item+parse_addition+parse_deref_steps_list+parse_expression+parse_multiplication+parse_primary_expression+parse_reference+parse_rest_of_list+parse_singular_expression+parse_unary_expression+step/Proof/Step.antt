@@ -1,19 +1,28 @@
 use mathlib.Core.Path.{refl}
-use Rattle.expressions.proofs.Bounds.{past-expression, expression-slots, expression-kept}
-use Rattle.tokens.proofs.Bounds.{past-token}
-use Rattle.expressions.proofs.Steps.{element-stopped, element-read, member-read, step-none}
-use borrow.Author.Needs.{needs}
 use Prim.Native.Nat.{ℕ}
-use Rattle.expressions.proofs.parse_expression.Reads as expression
-use Rattle.expressions.proofs.step.Reads as step
-use Rattle.expressions.proofs.+advance+field+group+item+parse_addition+parse_deref_steps_list+parse_expression+parse_multiplication+parse_primary_expression+parse_reference+parse_rest_of_list+parse_singular_expression+parse_unary_expression+step.Lts-step as step-lts
+use borrow.Author.Needs.{needs}
+use Rattle.tokens.proofs.Bounds.{past-token}
 use Rattle.references.proofs.finish_element.Reads as finish-element-reads
 use Rattle.references.proofs.parse_member.Reads as parse-member-reads
 use Rattle.tokens.proofs.peek.Reads as peek-reads
+use Rattle.expressions.proofs.Bounds.{past-expression, expression-slots, expression-kept}
+use Rattle.expressions.proofs.Steps.{element-stopped, element-read, member-read, step-none}
+use Rattle.expressions.proofs.parse_expression.Reads as expression
+use Rattle.expressions.proofs.step.Reads as step
+use Rattle.expressions.proofs.+advance+field+group+item+parse_addition+parse_deref_steps_list+parse_expression+parse_multiplication+parse_primary_expression+parse_reference+parse_rest_of_list+parse_singular_expression+parse_unary_expression+step.Lts-step as step-lts
 use Rattle.expressions.proofs.+advance+field+group+item+parse_addition+parse_deref_steps_list+parse_expression+parse_multiplication+parse_primary_expression+parse_reference+parse_rest_of_list+parse_singular_expression+parse_unary_expression+step.Proof.Shared.{expression-below, step-at}
 
 abbrev calls : ℕ → step-lts.Claims
-calls t = (peek-reads.Asked, peek-reads.Learnt, expression-below t, expression.Post, finish-element-reads.Asked, finish-element-reads.Learnt, parse-member-reads.Asked, parse-member-reads.Learnt)
+calls t = (
+  peek-reads.Asked,
+  peek-reads.Learnt,
+  expression-below t,
+  expression.Post,
+  finish-element-reads.Asked,
+  finish-element-reads.Learnt,
+  parse-member-reads.Asked,
+  parse-member-reads.Learnt,
+)
 
 parse-expression-requires : (t : ℕ) → step-lts.Need-parse-expression-requires (calls t) (step-at t) step.Post
 parse-expression-requires t c κs = (search needs, search (needs, past-token))
@@ -23,10 +32,15 @@ returns t c = search (needs, element-stopped)
 
 finish-element-requires : (t : ℕ) → step-lts.Need-finish-element-requires (calls t) (step-at t) step.Post
 finish-element-requires t c κs =
-    let p = c .before .before .before .before .before .before .before .before .before .before .before .before .before .before .before .before .before .before .pre .1 in
-    let z = past-token _ _ (c .before .before .before .before .before .before .before .before .before .before .before .before .before .peek .ensures) (c .before .before .before .before .before .before .before .before .before .before .before .before .match .keys1) refl (p .0) in
-    let g = c .before .before .before .before .before .before .before .before .before .parse-expression .ensures in
-    let q = c .before .before .before .index .given .1 in
+    let c₁ = c .before .before .before in
+    let c₂ = c₁ .before .before .before .before .before .before in
+    let c₃ = c₂ .before .before .before in
+    let c₄ = c₃ .before in
+    let c₅ = c₄ .before .before .before .before .before in
+    let p = c₅ .pre .1 in
+    let z = past-token _ _ (c₄ .peek .ensures) (c₃ .match .keys1) refl (p .0) in
+    let g = c₂ .parse-expression .ensures in
+    let q = c₁ .index .given .1 in
     (past-expression _ g q z, expression-slots _ g q z, expression-kept _ g q z (p .1))
 
 returns-2 : (t : ℕ) → step-lts.Need-returns-2 (calls t) (step-at t) step.Post

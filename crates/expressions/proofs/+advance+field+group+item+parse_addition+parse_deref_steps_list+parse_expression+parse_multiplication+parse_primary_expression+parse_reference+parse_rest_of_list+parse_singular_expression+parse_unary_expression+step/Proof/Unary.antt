@@ -1,18 +1,29 @@
+use Prim.Native.Nat.{ℕ}
 use borrow.Author.Needs.{needs}
+use Rattle.casts.proofs.parse_size_of.Reads as parse-size-of-reads
+use Rattle.tokens.proofs.peek.Reads as peek-reads
 use Rattle.expressions.proofs.Bounds.{size-inside, operand-sized, past-operand, operand-slots}
 use Rattle.expressions.proofs.Laws.{size-read, unary-stopped, unary-read}
-use Prim.Native.Nat.{ℕ}
 use Rattle.expressions.proofs.parse_primary_expression.Reads as primary
 use Rattle.expressions.proofs.parse_unary_expression.Reads as unary
-use Rattle.expressions.proofs.+advance+field+group+item+parse_addition+parse_deref_steps_list+parse_expression+parse_multiplication+parse_primary_expression+parse_reference+parse_rest_of_list+parse_singular_expression+parse_unary_expression+step.Lts-parse_unary_expression as unary-lts
-use Rattle.casts.proofs.parse_size_of.Reads as parse-size-of-reads
 use Rattle.expressions.proofs.after_prefix.Reads as after-prefix-reads
 use Rattle.expressions.proofs.finish_unary.Reads as finish-unary-reads
-use Rattle.tokens.proofs.peek.Reads as peek-reads
+use Rattle.expressions.proofs.+advance+field+group+item+parse_addition+parse_deref_steps_list+parse_expression+parse_multiplication+parse_primary_expression+parse_reference+parse_rest_of_list+parse_singular_expression+parse_unary_expression+step.Lts-parse_unary_expression as unary-lts
 use Rattle.expressions.proofs.+advance+field+group+item+parse_addition+parse_deref_steps_list+parse_expression+parse_multiplication+parse_primary_expression+parse_reference+parse_rest_of_list+parse_singular_expression+parse_unary_expression+step.Proof.Shared.{primary-below, unary-at}
 
 abbrev calls : ℕ → unary-lts.Claims
-calls t = (peek-reads.Asked, peek-reads.Learnt, parse-size-of-reads.Asked, parse-size-of-reads.Learnt, after-prefix-reads.Asked, after-prefix-reads.Learnt, primary-below t, primary.Post, finish-unary-reads.Asked, finish-unary-reads.Learnt)
+calls t = (
+  peek-reads.Asked,
+  peek-reads.Learnt,
+  parse-size-of-reads.Asked,
+  parse-size-of-reads.Learnt,
+  after-prefix-reads.Asked,
+  after-prefix-reads.Learnt,
+  primary-below t,
+  primary.Post,
+  finish-unary-reads.Asked,
+  finish-unary-reads.Learnt,
+)
 
 parse-size-of-requires : (t : ℕ) → unary-lts.Need-parse-size-of-requires (calls t) (unary-at t) unary.Post
 parse-size-of-requires t c κs = (search needs, search (needs, size-inside))
@@ -20,7 +31,8 @@ parse-size-of-requires t c κs = (search needs, search (needs, size-inside))
 returns : (t : ℕ) → unary-lts.Need-returns (calls t) (unary-at t) unary.Post
 returns t c = search (needs, size-read)
 
-parse-primary-expression-requires : (t : ℕ) → unary-lts.Need-parse-primary-expression-requires (calls t) (unary-at t) unary.Post
+parse-primary-expression-requires : (t : ℕ) →
+    unary-lts.Need-parse-primary-expression-requires (calls t) (unary-at t) unary.Post
 parse-primary-expression-requires t c κs = (search needs, search (needs, operand-sized))
 
 returns-2 : (t : ℕ) → unary-lts.Need-returns-2 (calls t) (unary-at t) unary.Post
