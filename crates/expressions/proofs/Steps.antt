@@ -76,11 +76,11 @@ module _ (tk tv : List ℕ) (u c t : ℕ) (peeked : t ≡ kindIn tk c) (l : Acti
       rw (active-ends l) at g
 
 -- a step of the code is that of the rules
-more-same :
+pub more-same :
     {r : Stepped} {m : ActiveList} {p : TokenId} {j : ℕ} → r ≡ More m p j → r ≡ More (active (ends m)) p j
 more-same {m = m} {p = p} {j = j} q = q ∙ ap (λ (x : ActiveList). More x p j) (sym (active-ends m))
 
-last-same :
+pub last-same :
     {r : Stepped} {m : ActiveList} {p : TokenId} {j : ℕ} → r ≡ Last m p j → r ≡ Last (active (ends m)) p j
 last-same {m = m} {p = p} {j = j} q = q ∙ ap (λ (x : ActiveList). Last x p j) (sym (active-ends m))
 

@@ -1,5 +1,6 @@
 // Expressions and references, after parse_expression to parse_deref_steps_list of the Rust's parser.rs: the readers that
-// call each other. In each, `unused` is the nesting (document 01's term) that is left for what is inside.
+// call each other. Most have short forms of the Rust's names, since what they are called is joined to a name of their
+// common proof. In each, `unused` is the nesting (document 01's term) that is left for what is inside.
 ghost use mathlib.Core.Path.{_≡_};
 ghost use Prim.Native.Nat.{_+_, _≤_};
 ghost use lib.ListN.{length};
@@ -136,12 +137,13 @@ pub fn parse_expression(
         };
     }
     let left = unused - 1;
-    parse_addition(kinds, types, node_kinds, node_loads, cursor, count, left)
+    addition(kinds, types, node_kinds, node_loads, cursor, count, left)
 }
 
-// Products joined by `+` or `-`, and what may follow them. In the Rust parse_rest_of_bitwise_expression and
-// parse_rest_of_bitshift_operation read on after a bitwise operator or a shift; here the pending operator says so.
-fn parse_addition(
+// Rust: parse_addition. Products joined by `+` or `-`, and what may follow them. The Rust reads on after a bitwise
+// operator or a shift in parse_rest_of_bitwise_expression and parse_rest_of_bitshift_operation; here the pending operator
+// says so.
+fn addition(
     kinds: &[u8],
     types: &[u8],
     node_kinds: &mut [u8],
@@ -159,16 +161,7 @@ fn parse_addition(
     loop {
         let at = TokenId(place);
         let bare = takes_unary(pending);
-        let right = parse_multiplication(
-            kinds,
-            types,
-            node_kinds,
-            node_loads,
-            at,
-            used,
-            unused,
-            bare,
-        );
+        let right = multiplication(kinds, types, node_kinds, node_loads, at, used, unused, bare);
         let Parsed::Node {
             root,
             cursor: after,
@@ -205,8 +198,8 @@ fn parse_addition(
     }
 }
 
-// Singulars joined by `*`, `/` or `%`; or, if bare, a unary only.
-fn parse_multiplication(
+// Rust: parse_multiplication. Singulars joined by `*`, `/` or `%`; or, if bare, a unary only.
+fn multiplication(
     kinds: &[u8],
     types: &[u8],
     node_kinds: &mut [u8],
@@ -224,16 +217,7 @@ fn parse_multiplication(
     let mut used = count;
     loop {
         let at = TokenId(place);
-        let right = parse_singular_expression(
-            kinds,
-            types,
-            node_kinds,
-            node_loads,
-            at,
-            used,
-            unused,
-            bare,
-        );
+        let right = singular(kinds, types, node_kinds, node_loads, at, used, unused, bare);
         let Parsed::Node {
             root,
             cursor: after,
@@ -273,8 +257,8 @@ fn parse_multiplication(
     }
 }
 
-// A unary, with `cast` before and `as` after it; or, if bare, a unary only.
-fn parse_singular_expression(
+// Rust: parse_singular_expression. A unary, with `cast` before and `as` after it; or, if bare, a unary only.
+fn singular(
     kinds: &[u8],
     types: &[u8],
     node_kinds: &mut [u8],
@@ -290,7 +274,7 @@ fn parse_singular_expression(
     let cast = optional_cast(kinds, cursor, bare);
     let from = cast.cursor;
     let found = cast.found;
-    let operand = parse_unary_expression(kinds, types, node_kinds, node_loads, from, count, unused);
+    let operand = unary(kinds, types, node_kinds, node_loads, from, count, unused);
     let Parsed::Node {
         root,
         cursor: after,
@@ -316,8 +300,8 @@ fn parse_singular_expression(
     )
 }
 
-// A size, a length, or a primary with `!` or `-` before it.
-fn parse_unary_expression(
+// Rust: parse_unary_expression. A size, a length, or a primary with `!` or `-` before it.
+fn unary(
     kinds: &[u8],
     types: &[u8],
     node_kinds: &mut [u8],
@@ -335,7 +319,7 @@ fn parse_unary_expression(
     }
     let from = after_prefix(cursor, token);
     let piped = token == BaseToken::Pipe;
-    let operand = parse_primary_expression(
+    let operand = primary(
         kinds,
         types,
         node_kinds,
@@ -365,8 +349,8 @@ fn parse_unary_expression(
     )
 }
 
-// A primary; or, after a pipe, a reference.
-fn parse_primary_expression(
+// Rust: parse_primary_expression. A primary; or, after a pipe, a reference.
+fn primary(
     kinds: &[u8],
     types: &[u8],
     node_kinds: &mut [u8],
@@ -381,7 +365,7 @@ fn parse_primary_expression(
 {
     match parse_opening(kinds, cursor, count, piped) {
         Opening::List(owner, inside, used) => {
-            parse_rest_of_list(
+            rest_of_list(
                 kinds,
                 types,
                 node_kinds,
@@ -393,7 +377,7 @@ fn parse_primary_expression(
             )
         }
         Opening::Reference(depth, name, pointer, after, used) => {
-            parse_reference(
+            reference(
                 kinds,
                 types,
                 node_kinds,
@@ -452,8 +436,8 @@ fn group(
     )
 }
 
-// A name, which is taken, and its steps; after a pointer, `..` and an expression may follow.
-fn parse_reference(
+// Rust: parse_reference. A name, which is taken, and its steps; after a pointer, `..` and an expression may follow.
+fn reference(
     kinds: &[u8],
     types: &[u8],
     node_kinds: &mut [u8],
@@ -469,7 +453,7 @@ fn parse_reference(
     requires { ⌜ Sized (now kinds) (now types) (now «node_kinds») (now «node_loads») (cursor .0) count ⌝ }
     ensures { λ r. ⌜ Gives (within (referred (start .0) depth (name .0) pointer) unused (row (now (kinds .entry)) (now (types .entry)))) (cursor .0) (nodes (now («node_kinds» .entry)) (now («node_loads» .entry)) count) r (now («node_kinds» .exit)) (now («node_loads» .exit)) ⌝ }
 {
-    let named = parse_deref_steps_list(
+    let named = deref_steps(
         kinds,
         types,
         node_kinds,
@@ -543,7 +527,7 @@ fn advance(
 
 // Arguments, fields or elements, whose opening token is taken. The Rust has a loop for each, in parse_rest_of_arguments,
 // parse_rest_of_structural and parse_primary_expression.
-fn parse_rest_of_list(
+fn rest_of_list(
     kinds: &[u8],
     types: &[u8],
     node_kinds: &mut [u8],
@@ -721,8 +705,8 @@ fn field(
     }
 }
 
-// A reference whose name is taken: its steps and its nodes.
-fn parse_deref_steps_list(
+// Rust: parse_deref_steps_list. A reference whose name is taken: its steps and its nodes.
+fn deref_steps(
     kinds: &[u8],
     types: &[u8],
     node_kinds: &mut [u8],

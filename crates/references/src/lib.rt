@@ -254,7 +254,7 @@ pub fn push_name(
 }
 
 // The step that was appended last becomes the list's item.
-fn push_step(
+pub fn push_step(
     node_kinds: &mut [u8],
     node_loads: &mut [u32],
     cursor: TokenId,

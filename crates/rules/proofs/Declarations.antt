@@ -5,7 +5,9 @@ use mathlib.Core.List.{List, [], _∷_}
 use Rattle.rules.specs.Reading.{Row}
 use Rattle.rules.specs.Trees.{trees}
 use Rattle.rules.specs.Columns.{Nodes, columns}
-use Rattle.rules.specs.Declarations.{colon, constant, member, memberItem, members, structure, struct, word}
+use Rattle.rules.specs.Expressions.{stepEnd}
+use Rattle.rules.specs.Declarations.{colon, typed, value, constantEnd, constant, member, memberEnd, memberItem}
+use Rattle.rules.specs.Declarations.{memberList, members, structure, struct, word}
 use Rattle.rules.proofs.Ways.{Numbered, root, strip}
 use Rattle.rules.proofs.Laid.{Claim, tree, _⋆_}
 use Rattle.rules.proofs.Sim.{Sim, Alike, Any, Stepped, _same_, grow, opens, gives, eased}
@@ -25,18 +27,29 @@ module _ (o : Nodes) (row : Row) where
       optional-sim row _ same λ found _.
       pick-sim found (gives λ s p. (refl, tt, p)) refuse-sim
 
+  typed-sim : (number unused : ℕ) → Follows o (typed columns row number unused) (typed trees row number unused)
+  unfolding typed
+  typed-sim number unused F =
+      consume-sim row _ same λ _ _.
+      colon-sim number same λ _ _.
+      type-rule o row unused F
+
+  value-sim : (unused : ℕ) → Follows o (value columns row unused) (value trees row unused)
+  unfolding value
+  value-sim unused F =
+      consume-sim row _ same λ _ _.
+      grow _ _ (expression-rule o row unused F) λ x.
+      consume-sim row _ same λ _ _.
+      gives λ s p. (x, refl, refl, p)
+
   pub constant-rule :
       (unused start flags : ℕ) →
       Follows o (constant columns row unused start flags) (constant trees row unused start flags)
-  unfolding constant
+  unfolding constant constantEnd
   constant-rule unused start flags F =
       here-sim same λ name _.
-      consume-sim row _ same λ _ _.
-      colon-sim _ same λ _ _.
-      grow _ _ (type-rule o row unused F) λ t.
-      consume-sim row _ same λ _ _.
-      grow _ _ (under (expression-rule o row unused)) λ x.
-      consume-sim row _ same λ _ _.
+      grow _ _ (typed-sim _ unused F) λ t.
+      grow _ _ (under (value-sim unused)) λ x.
       grow _ _ (link-sim _ t refl) λ i.
       grow _ _ (leaf-sim _ name refl) λ m.
       grow _ _ (leaf-sim _ flags refl) λ f.
@@ -46,16 +59,14 @@ module _ (o : Nodes) (row : Row) where
   unfolding member
   member-sim unused F =
       here-sim same λ name _.
-      consume-sim row _ same λ _ _.
-      colon-sim _ same λ _ _.
-      grow _ _ (type-rule o row unused F) λ t.
+      grow _ _ (typed-sim _ unused F) λ t.
       node-sim _ name refl
 
   member-item :
       {F : Claim} (unused : ℕ) (us : List Numbered) →
       Sim o (At o [] (opened us ⋆ F)) (Stepped (Open o F) (Open o F))
       (memberItem columns row unused (ends us)) (memberItem trees row unused (contents us))
-  unfolding memberItem
+  unfolding memberItem memberEnd stepEnd
   member-item {F} unused us =
       optional-sim row _ same λ closing _.
       pick-sim closing (gives λ s p. (us, refl, refl, p)) (
@@ -67,7 +78,7 @@ module _ (o : Nodes) (row : Row) where
   members-sim :
       {F : Claim} (unused : ℕ) →
       Sim o (At o [] F) (First o F) (members columns row unused) (members trees row unused)
-  unfolding members
+  unfolding members memberList
   members-sim unused =
       consume-sim row _ same λ _ _.
       begin-sim (

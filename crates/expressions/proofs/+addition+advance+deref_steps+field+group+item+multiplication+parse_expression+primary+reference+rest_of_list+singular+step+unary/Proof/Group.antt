@@ -5,8 +5,8 @@ use Rattle.expressions.proofs.Bounds.{past-expression, expression-slots
 use Rattle.expressions.proofs.Laws.{group-stopped, group-read}
 use Rattle.expressions.proofs.parse_expression.Reads as expression
 use Rattle.expressions.proofs.group.Reads as group
-use Rattle.expressions.proofs.+advance+field+group+item+parse_addition+parse_deref_steps_list+parse_expression+parse_multiplication+parse_primary_expression+parse_reference+parse_rest_of_list+parse_singular_expression+parse_unary_expression+step.Lts-group as group-lts
-use Rattle.expressions.proofs.+advance+field+group+item+parse_addition+parse_deref_steps_list+parse_expression+parse_multiplication+parse_primary_expression+parse_reference+parse_rest_of_list+parse_singular_expression+parse_unary_expression+step.Proof.Shared.{expression-below, group-at}
+use Rattle.expressions.proofs.+addition+advance+deref_steps+field+group+item+multiplication+parse_expression+primary+reference+rest_of_list+singular+step+unary.Lts-group as group-lts
+use Rattle.expressions.proofs.+addition+advance+deref_steps+field+group+item+multiplication+parse_expression+primary+reference+rest_of_list+singular+step+unary.Proof.Shared.{expression-below, group-at}
 
 abbrev calls : ℕ → group-lts.Claims
 calls t = (expression-below t, expression.Post, push-closed-reads.Asked, push-closed-reads.Learnt)

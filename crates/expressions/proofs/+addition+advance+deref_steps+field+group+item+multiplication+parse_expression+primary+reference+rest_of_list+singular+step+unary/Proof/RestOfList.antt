@@ -9,10 +9,10 @@ use Rattle.lists.proofs.finish_list.Reads as finish-list-reads
 use Rattle.nodes.proofs.start_list.Reads as start-list-reads
 use Rattle.expressions.proofs.Items.{none-fits, Items, first-item, list-refused, list-read, list-slots}
 use Rattle.expressions.proofs.Items.{list-fits, turn-sized, turn-fits, turn-counts, turn-less, next-item}
-use Rattle.expressions.proofs.parse_rest_of_list.Reads as rest-of-list
+use Rattle.expressions.proofs.rest_of_list.Reads as rest-of-list
 use Rattle.expressions.proofs.item.Reads as item
-use Rattle.expressions.proofs.+advance+field+group+item+parse_addition+parse_deref_steps_list+parse_expression+parse_multiplication+parse_primary_expression+parse_reference+parse_rest_of_list+parse_singular_expression+parse_unary_expression+step.Lts-parse_rest_of_list as rest-of-list-lts
-use Rattle.expressions.proofs.+advance+field+group+item+parse_addition+parse_deref_steps_list+parse_expression+parse_multiplication+parse_primary_expression+parse_reference+parse_rest_of_list+parse_singular_expression+parse_unary_expression+step.Proof.Shared.{rest-of-list-at, item-below}
+use Rattle.expressions.proofs.+addition+advance+deref_steps+field+group+item+multiplication+parse_expression+primary+reference+rest_of_list+singular+step+unary.Lts-rest_of_list as rest-of-list-lts
+use Rattle.expressions.proofs.+addition+advance+deref_steps+field+group+item+multiplication+parse_expression+primary+reference+rest_of_list+singular+step+unary.Proof.Shared.{rest-of-list-at, item-below}
 
 abbrev calls : ℕ → rest-of-list-lts.Claims
 calls t = (

@@ -11,10 +11,10 @@ use Rattle.rules.specs.Codes.Limit as Limit
 use Rattle.expressions.proofs.Items.{none-fits}
 use Rattle.expressions.proofs.Steps.{Steps, first-step, more-sized, more-fits, last-slots, last-fits}
 use Rattle.expressions.proofs.Steps.{steps-exceeded, steps-refused, steps-read, next-step}
-use Rattle.expressions.proofs.parse_deref_steps_list.Reads as deref-steps
+use Rattle.expressions.proofs.deref_steps.Reads as deref-steps
 use Rattle.expressions.proofs.step.Reads as step
-use Rattle.expressions.proofs.+advance+field+group+item+parse_addition+parse_deref_steps_list+parse_expression+parse_multiplication+parse_primary_expression+parse_reference+parse_rest_of_list+parse_singular_expression+parse_unary_expression+step.Lts-parse_deref_steps_list as deref-steps-lts
-use Rattle.expressions.proofs.+advance+field+group+item+parse_addition+parse_deref_steps_list+parse_expression+parse_multiplication+parse_primary_expression+parse_reference+parse_rest_of_list+parse_singular_expression+parse_unary_expression+step.Proof.Shared.{deref-steps-at, step-below}
+use Rattle.expressions.proofs.+addition+advance+deref_steps+field+group+item+multiplication+parse_expression+primary+reference+rest_of_list+singular+step+unary.Lts-deref_steps as deref-steps-lts
+use Rattle.expressions.proofs.+addition+advance+deref_steps+field+group+item+multiplication+parse_expression+primary+reference+rest_of_list+singular+step+unary.Proof.Shared.{deref-steps-at, step-below}
 
 abbrev calls : ℕ → deref-steps-lts.Claims
 calls t = (

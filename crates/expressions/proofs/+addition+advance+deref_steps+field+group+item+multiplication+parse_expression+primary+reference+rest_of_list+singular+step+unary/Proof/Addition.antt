@@ -8,10 +8,10 @@ use Rattle.operators.proofs.takes_unary.Reads as takes-unary-reads
 use Rattle.expressions.proofs.Bounds.{term-slots, past-term}
 use Rattle.expressions.proofs.Operands.{Terms, first-term, sum-stopped, sum-refused, sum-read, sum-sized}
 use Rattle.expressions.proofs.Operands.{sum-less, next-term}
-use Rattle.expressions.proofs.parse_addition.Reads as addition
-use Rattle.expressions.proofs.parse_multiplication.Reads as multiplication
-use Rattle.expressions.proofs.+advance+field+group+item+parse_addition+parse_deref_steps_list+parse_expression+parse_multiplication+parse_primary_expression+parse_reference+parse_rest_of_list+parse_singular_expression+parse_unary_expression+step.Lts-parse_addition as addition-lts
-use Rattle.expressions.proofs.+advance+field+group+item+parse_addition+parse_deref_steps_list+parse_expression+parse_multiplication+parse_primary_expression+parse_reference+parse_rest_of_list+parse_singular_expression+parse_unary_expression+step.Proof.Shared.{addition-at, multiplication-below}
+use Rattle.expressions.proofs.addition.Reads as addition
+use Rattle.expressions.proofs.multiplication.Reads as multiplication
+use Rattle.expressions.proofs.+addition+advance+deref_steps+field+group+item+multiplication+parse_expression+primary+reference+rest_of_list+singular+step+unary.Lts-addition as addition-lts
+use Rattle.expressions.proofs.+addition+advance+deref_steps+field+group+item+multiplication+parse_expression+primary+reference+rest_of_list+singular+step+unary.Proof.Shared.{addition-at, multiplication-below}
 
 abbrev calls : ℕ → addition-lts.Claims
 calls t = (

@@ -4,10 +4,10 @@ use Rattle.casts.proofs.finish_singular.Reads as finish-singular-reads
 use Rattle.casts.proofs.optional_cast.Reads as optional-cast-reads
 use Rattle.expressions.proofs.Bounds.{after-cast-unary, past-cast}
 use Rattle.expressions.proofs.Laws.{singular-stopped, singular-bare, singular-read}
-use Rattle.expressions.proofs.parse_singular_expression.Reads as singular
-use Rattle.expressions.proofs.parse_unary_expression.Reads as unary
-use Rattle.expressions.proofs.+advance+field+group+item+parse_addition+parse_deref_steps_list+parse_expression+parse_multiplication+parse_primary_expression+parse_reference+parse_rest_of_list+parse_singular_expression+parse_unary_expression+step.Lts-parse_singular_expression as singular-lts
-use Rattle.expressions.proofs.+advance+field+group+item+parse_addition+parse_deref_steps_list+parse_expression+parse_multiplication+parse_primary_expression+parse_reference+parse_rest_of_list+parse_singular_expression+parse_unary_expression+step.Proof.Shared.{singular-at, unary-below}
+use Rattle.expressions.proofs.singular.Reads as singular
+use Rattle.expressions.proofs.unary.Reads as unary
+use Rattle.expressions.proofs.+addition+advance+deref_steps+field+group+item+multiplication+parse_expression+primary+reference+rest_of_list+singular+step+unary.Lts-singular as singular-lts
+use Rattle.expressions.proofs.+addition+advance+deref_steps+field+group+item+multiplication+parse_expression+primary+reference+rest_of_list+singular+step+unary.Proof.Shared.{singular-at, unary-below}
 
 abbrev calls : ℕ → singular-lts.Claims
 calls t = (
@@ -19,9 +19,9 @@ calls t = (
   finish-singular-reads.Learnt,
 )
 
-parse-unary-expression-requires : (t : ℕ) →
-    singular-lts.Need-parse-unary-expression-requires (calls t) (singular-at t) singular.Post
-parse-unary-expression-requires t c κs = (search needs, search (needs, past-cast))
+unary-requires : (t : ℕ) →
+    singular-lts.Need-unary-requires (calls t) (singular-at t) singular.Post
+unary-requires t c κs = (search needs, search (needs, past-cast))
 
 returns : (t : ℕ) → singular-lts.Need-returns (calls t) (singular-at t) singular.Post
 returns t c = search (needs, singular-stopped)
@@ -35,7 +35,7 @@ finish-singular-requires t c κs =
     let c₂ = c₁ .before .before .before .before .before .before in
     let c₃ = c₂ .before .before .before .before in
     let c₄ = c₃ .before .before .before .before .before in
-    after-cast-unary _ _ (c₃ .optional-cast .ensures) (c₂ .parse-unary-expression .ensures) (c₁ .operand .given .1)
+    after-cast-unary _ _ (c₃ .optional-cast .ensures) (c₂ .unary .ensures) (c₁ .operand .given .1)
     (c₄ .pre .1)
 
 returns-3 : (t : ℕ) → singular-lts.Need-returns-3 (calls t) (singular-at t) singular.Post
@@ -45,7 +45,7 @@ pub spec : {M : Type 1} (t : ℕ) → singular-lts.Closed (calls t) (singular-at
 spec t =
     singular-lts.spec (calls t) (singular-at t) singular.Post
     (λ c κs. search needs)
-    (parse-unary-expression-requires t)
+    (unary-requires t)
     (λ c. search needs)
     (λ c. search needs)
     (λ c. search needs)

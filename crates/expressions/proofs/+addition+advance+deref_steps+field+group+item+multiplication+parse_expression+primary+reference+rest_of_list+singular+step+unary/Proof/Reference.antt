@@ -3,10 +3,10 @@ use borrow.Author.Needs.{needs}
 use Rattle.expressions.proofs.Bounds.{after-deref}
 use Rattle.expressions.proofs.Laws.{reference-stopped, reference-alone, reference-advanced}
 use Rattle.expressions.proofs.advance.Reads as advance
-use Rattle.expressions.proofs.parse_deref_steps_list.Reads as deref-steps
-use Rattle.expressions.proofs.parse_reference.Reads as reference
-use Rattle.expressions.proofs.+advance+field+group+item+parse_addition+parse_deref_steps_list+parse_expression+parse_multiplication+parse_primary_expression+parse_reference+parse_rest_of_list+parse_singular_expression+parse_unary_expression+step.Lts-parse_reference as reference-lts
-use Rattle.expressions.proofs.+advance+field+group+item+parse_addition+parse_deref_steps_list+parse_expression+parse_multiplication+parse_primary_expression+parse_reference+parse_rest_of_list+parse_singular_expression+parse_unary_expression+step.Proof.Shared.{advance-below, deref-steps-below, reference-at}
+use Rattle.expressions.proofs.deref_steps.Reads as deref-steps
+use Rattle.expressions.proofs.reference.Reads as reference
+use Rattle.expressions.proofs.+addition+advance+deref_steps+field+group+item+multiplication+parse_expression+primary+reference+rest_of_list+singular+step+unary.Lts-reference as reference-lts
+use Rattle.expressions.proofs.+addition+advance+deref_steps+field+group+item+multiplication+parse_expression+primary+reference+rest_of_list+singular+step+unary.Proof.Shared.{advance-below, deref-steps-below, reference-at}
 
 abbrev calls : ℕ → reference-lts.Claims
 calls t = (deref-steps-below t, deref-steps.Post, advance-below t, advance.Post)

@@ -7,10 +7,10 @@ use Rattle.operators.proofs.join_factor.Reads as join-factor-reads
 use Rattle.expressions.proofs.Bounds.{factor-slots, past-factor}
 use Rattle.expressions.proofs.Operands.{Factors, first-factor, product-stopped, product-bare, product-refused}
 use Rattle.expressions.proofs.Operands.{product-read, product-sized, product-less, next-factor}
-use Rattle.expressions.proofs.parse_multiplication.Reads as multiplication
-use Rattle.expressions.proofs.parse_singular_expression.Reads as singular
-use Rattle.expressions.proofs.+advance+field+group+item+parse_addition+parse_deref_steps_list+parse_expression+parse_multiplication+parse_primary_expression+parse_reference+parse_rest_of_list+parse_singular_expression+parse_unary_expression+step.Lts-parse_multiplication as multiplication-lts
-use Rattle.expressions.proofs.+advance+field+group+item+parse_addition+parse_deref_steps_list+parse_expression+parse_multiplication+parse_primary_expression+parse_reference+parse_rest_of_list+parse_singular_expression+parse_unary_expression+step.Proof.Shared.{multiplication-at, singular-below}
+use Rattle.expressions.proofs.multiplication.Reads as multiplication
+use Rattle.expressions.proofs.singular.Reads as singular
+use Rattle.expressions.proofs.+addition+advance+deref_steps+field+group+item+multiplication+parse_expression+primary+reference+rest_of_list+singular+step+unary.Lts-multiplication as multiplication-lts
+use Rattle.expressions.proofs.+addition+advance+deref_steps+field+group+item+multiplication+parse_expression+primary+reference+rest_of_list+singular+step+unary.Proof.Shared.{multiplication-at, singular-below}
 
 abbrev calls : ℕ → multiplication-lts.Claims
 calls t = (singular-below t, singular.Post, join-factor-reads.Asked, join-factor-reads.Learnt)

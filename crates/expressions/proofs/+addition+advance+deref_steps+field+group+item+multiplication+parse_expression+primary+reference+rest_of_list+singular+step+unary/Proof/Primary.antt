@@ -6,12 +6,12 @@ use Rattle.references.proofs.push_name.Reads as push-name-reads
 use Rattle.expressions.proofs.Bounds.{list-sized, reference-sized, group-sized, name-slots}
 use Rattle.expressions.proofs.Laws.{list-opened, reference-opened, name-opened, group-opened, literal-opened}
 use Rattle.expressions.proofs.Laws.{primary-refused}
-use Rattle.expressions.proofs.parse_rest_of_list.Reads as rest-of-list
+use Rattle.expressions.proofs.rest_of_list.Reads as rest-of-list
 use Rattle.expressions.proofs.group.Reads as group
-use Rattle.expressions.proofs.parse_primary_expression.Reads as primary
-use Rattle.expressions.proofs.parse_reference.Reads as reference
-use Rattle.expressions.proofs.+advance+field+group+item+parse_addition+parse_deref_steps_list+parse_expression+parse_multiplication+parse_primary_expression+parse_reference+parse_rest_of_list+parse_singular_expression+parse_unary_expression+step.Lts-parse_primary_expression as primary-lts
-use Rattle.expressions.proofs.+advance+field+group+item+parse_addition+parse_deref_steps_list+parse_expression+parse_multiplication+parse_primary_expression+parse_reference+parse_rest_of_list+parse_singular_expression+parse_unary_expression+step.Proof.Shared.{rest-of-list-below, group-below, primary-at, reference-below}
+use Rattle.expressions.proofs.primary.Reads as primary
+use Rattle.expressions.proofs.reference.Reads as reference
+use Rattle.expressions.proofs.+addition+advance+deref_steps+field+group+item+multiplication+parse_expression+primary+reference+rest_of_list+singular+step+unary.Lts-primary as primary-lts
+use Rattle.expressions.proofs.+addition+advance+deref_steps+field+group+item+multiplication+parse_expression+primary+reference+rest_of_list+singular+step+unary.Proof.Shared.{rest-of-list-below, group-below, primary-at, reference-below}
 
 abbrev calls : ℕ → primary-lts.Claims
 calls t = (
@@ -29,12 +29,12 @@ calls t = (
   parse-literal-reads.Learnt,
 )
 
-parse-rest-of-list-requires : (t : ℕ) →
-    primary-lts.Need-parse-rest-of-list-requires (calls t) (primary-at t) primary.Post
-parse-rest-of-list-requires t c κs = (search needs, search (needs, list-sized))
+rest-of-list-requires : (t : ℕ) →
+    primary-lts.Need-rest-of-list-requires (calls t) (primary-at t) primary.Post
+rest-of-list-requires t c κs = (search needs, search (needs, list-sized))
 
-parse-reference-requires : (t : ℕ) → primary-lts.Need-parse-reference-requires (calls t) (primary-at t) primary.Post
-parse-reference-requires t c κs = (search needs, search (needs, reference-sized))
+reference-requires : (t : ℕ) → primary-lts.Need-reference-requires (calls t) (primary-at t) primary.Post
+reference-requires t c κs = (search needs, search (needs, reference-sized))
 
 push-name-requires : (t : ℕ) → primary-lts.Need-push-name-requires (calls t) (primary-at t) primary.Post
 push-name-requires t c κs = search (needs, name-slots)
@@ -65,9 +65,9 @@ spec t =
     primary-lts.spec (calls t) (primary-at t) primary.Post
     (λ c κs. search needs)
     (λ c. search needs)
-    (parse-rest-of-list-requires t)
+    (rest-of-list-requires t)
     (λ c. search needs)
-    (parse-reference-requires t)
+    (reference-requires t)
     (λ c. search needs)
     (push-name-requires t)
     (λ c. search needs)

@@ -4,12 +4,12 @@ use Rattle.casts.proofs.parse_size_of.Reads as parse-size-of-reads
 use Rattle.tokens.proofs.peek.Reads as peek-reads
 use Rattle.expressions.proofs.Bounds.{size-inside, operand-sized, past-operand, operand-slots}
 use Rattle.expressions.proofs.Laws.{size-read, unary-stopped, unary-read}
-use Rattle.expressions.proofs.parse_primary_expression.Reads as primary
-use Rattle.expressions.proofs.parse_unary_expression.Reads as unary
+use Rattle.expressions.proofs.primary.Reads as primary
+use Rattle.expressions.proofs.unary.Reads as unary
 use Rattle.expressions.proofs.after_prefix.Reads as after-prefix-reads
 use Rattle.expressions.proofs.finish_unary.Reads as finish-unary-reads
-use Rattle.expressions.proofs.+advance+field+group+item+parse_addition+parse_deref_steps_list+parse_expression+parse_multiplication+parse_primary_expression+parse_reference+parse_rest_of_list+parse_singular_expression+parse_unary_expression+step.Lts-parse_unary_expression as unary-lts
-use Rattle.expressions.proofs.+advance+field+group+item+parse_addition+parse_deref_steps_list+parse_expression+parse_multiplication+parse_primary_expression+parse_reference+parse_rest_of_list+parse_singular_expression+parse_unary_expression+step.Proof.Shared.{primary-below, unary-at}
+use Rattle.expressions.proofs.+addition+advance+deref_steps+field+group+item+multiplication+parse_expression+primary+reference+rest_of_list+singular+step+unary.Lts-unary as unary-lts
+use Rattle.expressions.proofs.+addition+advance+deref_steps+field+group+item+multiplication+parse_expression+primary+reference+rest_of_list+singular+step+unary.Proof.Shared.{primary-below, unary-at}
 
 abbrev calls : ℕ → unary-lts.Claims
 calls t = (
@@ -31,9 +31,9 @@ parse-size-of-requires t c κs = (search needs, search (needs, size-inside))
 returns : (t : ℕ) → unary-lts.Need-returns (calls t) (unary-at t) unary.Post
 returns t c = search (needs, size-read)
 
-parse-primary-expression-requires : (t : ℕ) →
-    unary-lts.Need-parse-primary-expression-requires (calls t) (unary-at t) unary.Post
-parse-primary-expression-requires t c κs = (search needs, search (needs, operand-sized))
+primary-requires : (t : ℕ) →
+    unary-lts.Need-primary-requires (calls t) (unary-at t) unary.Post
+primary-requires t c κs = (search needs, search (needs, operand-sized))
 
 returns-2 : (t : ℕ) → unary-lts.Need-returns-2 (calls t) (unary-at t) unary.Post
 returns-2 t c = search (needs, unary-stopped)
@@ -53,7 +53,7 @@ spec t =
     (λ c. search needs)
     (returns t)
     (λ c κs. search needs)
-    (parse-primary-expression-requires t)
+    (primary-requires t)
     (λ c. search needs)
     (λ c. search needs)
     (λ c. search needs)

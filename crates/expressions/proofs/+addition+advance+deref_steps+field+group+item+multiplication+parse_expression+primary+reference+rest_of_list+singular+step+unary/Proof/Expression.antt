@@ -1,10 +1,10 @@
 use Prim.Native.Nat.{ℕ}
 use borrow.Author.Needs.{needs}
 use Rattle.expressions.proofs.Laws.{too-deep, expression-read}
-use Rattle.expressions.proofs.parse_addition.Reads as addition
+use Rattle.expressions.proofs.addition.Reads as addition
 use Rattle.expressions.proofs.parse_expression.Reads as expression
-use Rattle.expressions.proofs.+advance+field+group+item+parse_addition+parse_deref_steps_list+parse_expression+parse_multiplication+parse_primary_expression+parse_reference+parse_rest_of_list+parse_singular_expression+parse_unary_expression+step.Lts-parse_expression as expression-lts
-use Rattle.expressions.proofs.+advance+field+group+item+parse_addition+parse_deref_steps_list+parse_expression+parse_multiplication+parse_primary_expression+parse_reference+parse_rest_of_list+parse_singular_expression+parse_unary_expression+step.Proof.Shared.{addition-below, expression-at}
+use Rattle.expressions.proofs.+addition+advance+deref_steps+field+group+item+multiplication+parse_expression+primary+reference+rest_of_list+singular+step+unary.Lts-parse_expression as expression-lts
+use Rattle.expressions.proofs.+addition+advance+deref_steps+field+group+item+multiplication+parse_expression+primary+reference+rest_of_list+singular+step+unary.Proof.Shared.{addition-below, expression-at}
 
 abbrev calls : ℕ → expression-lts.Claims
 calls t = (addition-below t, addition.Post)

@@ -7,8 +7,8 @@ use Rattle.expressions.proofs.Laws.{item-none, item-field, item-stopped
 use Rattle.expressions.proofs.parse_expression.Reads as expression
 use Rattle.expressions.proofs.field.Reads as field
 use Rattle.expressions.proofs.item.Reads as item
-use Rattle.expressions.proofs.+advance+field+group+item+parse_addition+parse_deref_steps_list+parse_expression+parse_multiplication+parse_primary_expression+parse_reference+parse_rest_of_list+parse_singular_expression+parse_unary_expression+step.Lts-item as item-lts
-use Rattle.expressions.proofs.+advance+field+group+item+parse_addition+parse_deref_steps_list+parse_expression+parse_multiplication+parse_primary_expression+parse_reference+parse_rest_of_list+parse_singular_expression+parse_unary_expression+step.Proof.Shared.{expression-below, field-below, item-at}
+use Rattle.expressions.proofs.+addition+advance+deref_steps+field+group+item+multiplication+parse_expression+primary+reference+rest_of_list+singular+step+unary.Lts-item as item-lts
+use Rattle.expressions.proofs.+addition+advance+deref_steps+field+group+item+multiplication+parse_expression+primary+reference+rest_of_list+singular+step+unary.Proof.Shared.{expression-below, field-below, item-at}
 
 abbrev calls : ℕ → item-lts.Claims
 calls t = (
