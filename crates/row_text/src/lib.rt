@@ -1,0 +1,340 @@
+// Rows of tokens as lines of text, for the test programs:
+//
+//     TEXT # SLOTS : WORD WORD ..
+//
+// TEXT is the row as Penne has it, SLOTS how many node slots are lent. A WORD is tokens with commas between them, and
+// after a `*` how often they stand, if not once. A token is its kind, and after a `/` its value type, if that is not
+// i32. EndOfSource is a token like any other. Words need spaces between them; else spaces are free outside of words.
+ghost use Prim.Native.Nat.{ℕ, _+_, _-_, _*_, _≤_, _<_};
+ghost use mathlib.Core.Path.{_≡_};
+ghost use lib.ListN.{length, getD};
+ghost use Rattle.row_text.specs.Most as Most;
+ghost use Rattle.row_text.specs.Read.{Within, Numbered, Counted, Fits};
+use codes::ValueTypeKeyword;
+
+// The most tokens of a row, and the most slots.
+pub const TOKENS: usize = 512;
+
+pub const SLOTS: u32 = 512;
+
+// Numbers are decimal.
+const BASE: u32 = 10;
+
+// Kinds and value types are bytes.
+const BYTE: u32 = 255;
+
+// Words stand at most so often.
+const TIMES: u32 = 512;
+
+// A number and the place after it; 0 where none was found.
+pub struct Decimal {
+    pub found: bool,
+    pub value: u32,
+    pub next: usize,
+}
+
+// How many tokens there are once some were read, and the place after these; or that they could not be read.
+pub struct Tokens {
+    pub good: bool,
+    pub count: usize,
+    pub next: usize,
+}
+
+// What a line says: where its text ends, the slots, and how many tokens there are; or that the line is bad.
+pub struct Row {
+    pub good: bool,
+    pub text: usize,
+    pub slots: usize,
+    pub tokens: usize,
+}
+
+// The first place from here on with this byte, or the line's end.
+pub fn find(line: &[u8], from: usize, byte: u8) -> usize
+    requires { ⌜ from ≤ length (now line) ⌝ }
+    ensures within { λ r. ⌜ Within (now (line .entry)) from r ⌝ }
+    ensures before { λ r. ⌜ ((k : ℕ) → k < r → from ≤ k → getD (now (line .entry)) k 0 ≡ byte → ⊥) ⌝ }
+    ensures found { λ r. ⌜ (r < length (now (line .entry)) → getD (now (line .entry)) r 0 ≡ byte) ⌝ }
+{
+    let mut at = from;
+    while at < line.len() {
+        if line[at] == byte {
+            return at;
+        }
+        at += 1;
+    }
+    at
+}
+
+// The place after this byte if it stands here, else this place.
+pub fn after(line: &[u8], from: usize, byte: u8) -> usize
+    requires { ⌜ from ≤ length (now line) ⌝ }
+    ensures { λ r. ⌜ Within (now (line .entry)) from r ⌝ }
+{
+    if from < line.len() {
+        if line[from] == byte {
+            return from + 1;
+        }
+    }
+    from
+}
+
+// The first place from here on without a space, or the line's end.
+pub fn skip(line: &[u8], from: usize) -> usize
+    requires { ⌜ from ≤ length (now line) ⌝ }
+    ensures { λ r. ⌜ Within (now (line .entry)) from r ⌝ }
+{
+    let mut at = from;
+    while at < line.len() {
+        if line[at] != b' ' {
+            return at;
+        }
+        at += 1;
+    }
+    at
+}
+
+// The end of the line's first part, which ends here, without the spaces before its end.
+pub fn trim(line: &[u8], end: usize) -> usize
+    requires { ⌜ end ≤ length (now line) ⌝ }
+    ensures { λ r. ⌜ r ≤ end ⌝ }
+{
+    let mut at = end;
+    while at > 0 {
+        if line[at - 1] != b' ' {
+            return at;
+        }
+        at -= 1;
+    }
+    at
+}
+
+// The value of a digit, and BASE for what is none.
+fn digit(byte: u8) -> u32
+    ensures { λ r. ⌜ r ≤ Most.Digit ⌝ }
+{
+    if byte < b'0' {
+        return BASE;
+    }
+    if b'9' < byte {
+        return BASE;
+    }
+    wide(byte - b'0')
+}
+
+fn wide(byte: u8) -> u32
+    ensures { λ r. ⌜ r ≡ byte ⌝ }
+{
+    byte as u32
+}
+
+// The number at this place, if it is at most so large.
+pub fn number(line: &[u8], from: usize, most: u32) -> Decimal
+    requires { ⌜ (from ≤ length (now line)) × (most ≤ Most.Number) ⌝ }
+    ensures { λ r. ⌜ Numbered (now (line .entry)) from most r ⌝ }
+{
+    let mut at = from;
+    let mut value: u32 = 0;
+    while at < line.len() {
+        let more = digit(line[at]);
+        if most < value || more == BASE {
+            break;
+        }
+        value = value * BASE + more;
+        at += 1;
+    }
+    if from < at && value <= most {
+        return Decimal {
+            found: true,
+            value,
+            next: at,
+        };
+    }
+    Decimal {
+        found: false,
+        value: 0,
+        next: at,
+    }
+}
+
+// The value type after a `/` at this place, or i32 where there is none.
+fn value_type(line: &[u8], from: usize) -> Decimal
+    requires { ⌜ from ≤ length (now line) ⌝ }
+    ensures { λ r. ⌜ Numbered (now (line .entry)) from Most.Byte r ⌝ }
+{
+    let inside = after(line, from, b'/');
+    if inside == from {
+        return Decimal {
+            found: true,
+            value: wide(ValueTypeKeyword::Int32),
+            next: from,
+        };
+    }
+    number(line, inside, BYTE)
+}
+
+// A token at this place, which is put into the columns after those that are there.
+fn read_token(
+    line: &[u8],
+    from: usize,
+    kinds: &mut [u8; TOKENS],
+    types: &mut [u8; TOKENS],
+    count: usize,
+) -> Tokens
+    requires { ⌜ (from ≤ length (now line)) × (count ≤ Most.Tokens) ⌝ }
+    ensures { λ r. ⌜ Counted (now (line .entry)) from count r ⌝ }
+{
+    let kind = number(line, from, BYTE);
+    let after_kind = kind.next;
+    let value_type = value_type(line, after_kind);
+    let next = value_type.next;
+    if count < TOKENS && kind.found && value_type.found {
+        kinds[count] = kind.value as u8;
+        types[count] = value_type.value as u8;
+        return Tokens {
+            good: true,
+            count: count + 1,
+            next,
+        };
+    }
+    Tokens {
+        good: false,
+        count,
+        next,
+    }
+}
+
+// Tokens with commas between them.
+fn read_group(
+    line: &[u8],
+    from: usize,
+    kinds: &mut [u8; TOKENS],
+    types: &mut [u8; TOKENS],
+    count: usize,
+) -> Tokens
+    requires { ⌜ (from ≤ length (now line)) × (count ≤ Most.Tokens) ⌝ }
+    ensures { λ r. ⌜ Counted (now (line .entry)) from count r ⌝ }
+{
+    let mut at = from;
+    let mut used = count;
+    loop {
+        let token = read_token(line, at, kinds, types, used);
+        let next = token.next;
+        let comma = after(line, next, b',');
+        if comma == next || !token.good {
+            return token;
+        }
+        at = comma;
+        used = token.count;
+    }
+}
+
+// The tokens from `first` up to `past` again and again, until there are `end`.
+fn repeat(kinds: &mut [u8; TOKENS], types: &mut [u8; TOKENS], first: usize, past: usize, end: usize)
+    requires { ⌜ (first ≤ past) × (end ≤ Most.Tokens) ⌝ }
+{
+    let mut from = first;
+    let mut to = past;
+    while to < end {
+        kinds[to] = kinds[from];
+        types[to] = types[from];
+        from += 1;
+        to += 1;
+    }
+}
+
+// How many tokens there are if those from `first` up to `past` stand so often.
+fn repeated(first: usize, past: usize, times: usize) -> usize
+    requires { ⌜ (first ≤ past) × (past ≤ Most.Tokens) × (times ≤ Most.Times) ⌝ }
+    ensures { λ r. ⌜ r ≡ first + (past - first) * times ⌝ }
+{
+    first + (past - first) * times
+}
+
+// Tokens with commas between them, and after a `*` how often they stand.
+fn read_word(
+    line: &[u8],
+    from: usize,
+    kinds: &mut [u8; TOKENS],
+    types: &mut [u8; TOKENS],
+    count: usize,
+) -> Tokens
+    requires { ⌜ (from ≤ length (now line)) × (count ≤ Most.Tokens) ⌝ }
+    ensures { λ r. ⌜ Counted (now (line .entry)) from count r ⌝ }
+{
+    let group = read_group(line, from, kinds, types, count);
+    let after_group = group.next;
+    let past = group.count;
+    let star = after(line, after_group, b'*');
+    if star == after_group || !group.good {
+        return group;
+    }
+    let times = number(line, star, TIMES);
+    let next = times.next;
+    let end = repeated(count, past, times.value as usize);
+    if times.found && end <= TOKENS {
+        repeat(kinds, types, count, past, end);
+        return Tokens {
+            good: true,
+            count: end,
+            next,
+        };
+    }
+    Tokens {
+        good: false,
+        count,
+        next,
+    }
+}
+
+// The tokens of a row, from this place to the line's end. A word has a digit, so that it ends further on.
+pub fn read_tokens(
+    line: &[u8],
+    from: usize,
+    kinds: &mut [u8; TOKENS],
+    types: &mut [u8; TOKENS],
+) -> Tokens
+    requires { ⌜ from ≤ length (now line) ⌝ }
+    ensures { λ r. ⌜ Counted (now (line .entry)) from 0 r ⌝ }
+{
+    let mut at = skip(line, from);
+    let mut count: usize = 0;
+    while at < line.len() {
+        let word = read_word(line, at, kinds, types, count);
+        let next = word.next;
+        if next <= at || !word.good {
+            return Tokens {
+                good: false,
+                count,
+                next: at,
+            };
+        }
+        count = word.count;
+        at = skip(line, next);
+    }
+    Tokens {
+        good: true,
+        count,
+        next: at,
+    }
+}
+
+// The row that a line says; its tokens are put into the columns.
+pub fn read_row(line: &[u8], kinds: &mut [u8; TOKENS], types: &mut [u8; TOKENS]) -> Row
+    ensures { λ r. ⌜ Fits (now (line .entry)) r ⌝ }
+{
+    let end = find(line, 0, b'#');
+    let text = trim(line, end);
+    let hash = after(line, end, b'#');
+    let start = skip(line, hash);
+    let slots = number(line, start, SLOTS);
+    let after_slots = slots.next;
+    let colon = skip(line, after_slots);
+    let inside = after(line, colon, b':');
+    let tokens = read_tokens(line, inside, kinds, types);
+    Row {
+        good: slots.found && colon < inside && tokens.good,
+        text,
+        slots: slots.value as usize,
+        tokens: tokens.count,
+    }
+}
