@@ -1,0 +1,382 @@
+-- What the checks tell, and how an entry's promise follows from its check and from the rules.
+use mathlib.Core.Path.{_≡_, refl, sym, _∙_, ap, subst}
+use mathlib.Core.Bool.{Bool, true, false, not, true≢false}
+use mathlib.Core.List.{List, [], _∷_}
+use mathlib.Core.Logic.{_≢_}
+use mathlib.Core.Option.{some, none}
+use Prim.Native.Nat.{ℕ, suc, _+_, _-_, _≤_, _<_}
+use native.Mathlib.Omega.{arith}
+use lib.ListN.{length}
+use lib.Dec.{eqb, ltb}
+use borrow.Author.Tests.{ltb-true, ltb-false, eqb-true, lt-ltb, le-ltb, eq-eqb, ne-eqb}
+use Rattle.codes.specs.declared.Parsed.{Parsed}
+use Rattle.codes.specs.declared.Parsed.the-variants.{Node, Refused}
+use Rattle.codes.specs.declared.NodeId.{NodeId}
+use Rattle.codes.specs.declared.TokenId.{TokenId}
+use Rattle.codes.specs.Answer.{Gives, Sized, answer, parsed, nodes, row, token}
+use Rattle.codes.proofs.Onto.{came-read, came-refused, plain-parsed, declines, stays}
+use Rattle.penne.specs.declared.Checked.{Checked}
+use Rattle.penne.specs.declared.Checked.the-variants.{Passed, Failed}
+use Rattle.penne.specs.Answer.{checkOf}
+use Rattle.penne.specs.Checks.{Check, check, orElse, failing, or, unequal, bad, badToken, lastCheck, rowCheck}
+use Rattle.penne.specs.Checks.{placeCheck, slotsCheck, flagsCheck, wordCheck, inputCheck, declarationCheck}
+use Rattle.penne.specs.Checks.{wordDeclarationCheck, checked}
+use Rattle.penne.specs.Promise.{countOf, Frame, Accepted, Refuses, Promise}
+use Rattle.penne.specs.Promise.{Expression, Type', Constant, Struct, Word}
+use Rattle.rules.specs.Codes.{pick}
+use Rattle.rules.specs.Codes.BaseToken as BaseToken
+use Rattle.rules.specs.Codes.ValueTypeKeyword as ValueTypeKeyword
+use Rattle.rules.specs.Codes.Limit as Limit
+use Rattle.rules.specs.Codes.Refusal as Refusal
+use Rattle.rules.specs.Reading.{Rule, Row, Result, ok, no, Outcome, kindOf, typeOf}
+use Rattle.rules.specs.Trees.{Tree}
+use Rattle.rules.specs.Columns.{Nodes, columns}
+use Rattle.rules.specs.Types.{type}
+use Rattle.rules.specs.Expressions.{expression}
+use Rattle.rules.specs.Declarations.{constant, struct, word}
+use Rattle.rules.specs.Ways.{Whole}
+use Rattle.rules.specs.Demand as Demand
+use Rattle.rules.proofs.Demand.{types, expressions, constants, structs, words}
+
+-- one check, and another
+module _ (a b : Checked) where
+  pub first-passed : a ≡ Passed → checkOf b ≡ orElse (checkOf a) (checkOf b)
+  unfolding orElse
+  first-passed e = rw e refl
+
+  pub first-failed : {n : ℕ} {x : TokenId} → a ≡ Failed n x → some (n, x .0) ≡ orElse (checkOf a) (checkOf b)
+  unfolding orElse
+  first-failed e = rw e refl
+
+last-check : (c : Check) → orElse c none ≡ c
+unfolding orElse
+last-check none = refl
+last-check (some r) = refl
+
+both : {x a b c d : Check} → x ≡ orElse a b → a ≡ c → b ≡ d → x ≡ orElse c d
+both e f g = e ∙ rw (f, g) refl
+
+-- the tokens of a row before any was looked at
+pub all-left : (row : Row) (n : ℕ) → badToken row 0 n ≡ badToken row 0 (n - 0)
+all-left row n = let e : n ≡ n - 0 = omega arith in rw (← e) refl
+
+-- the tokens of a row, of which those before place passed
+module _ (row : Row) (place : ℕ) (h : badToken row 0 (length (row .kinds)) ≡ badToken row place (length (row .kinds)
+    - place))
+  where
+    module _ (b : place < length (row .kinds)) where
+      left : length (row .kinds) - place ≡ suc (length (row .kinds) - (place + 1))
+      left = omega arith
+
+      next :
+          badToken row 0 (length (row .kinds)) ≡
+          pick (bad (kindOf row place) (typeOf row place)) (some (Refusal.BadToken, place))
+          (badToken row (place + 1) (length (row .kinds) - (place + 1)))
+      unfolding badToken
+      next = h ∙ rw left refl
+
+      pub bad-kind :
+          BaseToken.Error < kindOf row place → some (Refusal.BadToken, place) ≡ badToken row 0 (length (row .kinds))
+      bad-kind g = sym (next ∙ rw (lt-ltb _ _ g) refl)
+
+      pub bad-type :
+          kindOf row place ≤ BaseToken.Error → ValueTypeKeyword.Bool < typeOf row place →
+          some (Refusal.BadToken, place) ≡ badToken row 0 (length (row .kinds))
+      bad-type f g = sym (next ∙ rw (le-ltb _ _ f, lt-ltb _ _ g) refl)
+
+      pub good-token :
+          kindOf row place ≤ BaseToken.Error → typeOf row place ≤ ValueTypeKeyword.Bool →
+          badToken row 0 (length (row .kinds)) ≡ badToken row (place + 1) (length (row .kinds) - (place + 1))
+      good-token f g = next ∙ rw (le-ltb _ _ f, le-ltb _ _ g) refl
+
+    pub good-tokens : length (row .kinds) ≤ place → none ≡ badToken row 0 (length (row .kinds))
+    unfolding badToken
+    good-tokens b =
+        let e : length (row .kinds) - place ≡ 0 = omega arith in
+        sym (h ∙ rw e refl)
+
+-- the row's size
+module _ (tk tv : List ℕ) where
+  pub other-size :
+      (length tv ≡ length tk → ⊥) → some (Refusal.BadRow, 0) ≡ rowCheck (row tk tv)
+  unfolding orElse
+  other-size h = rw (ne-eqb _ _ h) refl
+
+  pub no-token : length tv ≡ length tk → length tk ≡ 0 → some (Refusal.BadRow, 0) ≡ rowCheck (row tk tv)
+  unfolding orElse
+  no-token e z = rw (eq-eqb _ _ e, eq-eqb _ _ z) refl
+
+  module _ (e : length tv ≡ length tk) (h : length tk ≡ 0 → ⊥) where
+    pub too-many : Limit.Tokens < length tk → some (Refusal.BadRow, 0) ≡ rowCheck (row tk tv)
+    unfolding orElse
+    too-many b = rw (eq-eqb _ _ e, ne-eqb _ _ h, lt-ltb _ _ b) refl
+
+    pub row-checked :
+        length tk ≤ Limit.Tokens → {x a b : Check} → x ≡ orElse a b → a ≡ badToken (row tk tv) 0 (length tk) →
+        b ≡ lastCheck (row tk tv) → x ≡ rowCheck (row tk tv)
+    unfolding orElse
+    row-checked b q f g =
+        both q f (g ∙ sym (last-check _)) ∙ rw (eq-eqb _ _ e, ne-eqb _ _ h, le-ltb _ _ b) refl
+
+-- the row's last token
+module _ (row : Row) where
+  pub ends-well : kindOf row (length (row .kinds) - 1) ≡ BaseToken.EndOfSource → none ≡ lastCheck row
+  ends-well e = rw e refl
+
+  pub ends-badly :
+      (kindOf row (length (row .kinds) - 1) ≡ BaseToken.EndOfSource → ⊥) →
+      some (Refusal.NoEndOfSource, length (row .kinds) - 1) ≡ lastCheck row
+  ends-badly h = rw (ne-eqb _ _ h) refl
+
+-- a place in it
+module _ (row : Row) (place : ℕ) where
+  pub place-there : place < length (row .kinds) → none ≡ placeCheck row place
+  place-there h = rw (lt-ltb _ _ h) refl
+
+  pub place-past : length (row .kinds) ≤ place → some (Refusal.BadCursor, 0) ≡ placeCheck row place
+  place-past h = rw (le-ltb _ _ h) refl
+
+-- the slots
+module _ (slots loads count : ℕ) where
+  pub other-slots : (loads ≡ slots → ⊥) → some (Refusal.BadColumns, 0) ≡ slotsCheck slots loads count
+  unfolding orElse
+  other-slots h = rw (ne-eqb _ _ h) refl
+
+  module _ (e : loads ≡ slots) where
+    pub too-many-slots : Limit.Slots < slots → some (Refusal.BadColumns, 0) ≡ slotsCheck slots loads count
+    unfolding orElse
+    too-many-slots h = rw (eq-eqb _ _ e, lt-ltb _ _ h) refl
+
+    pub count-above : slots ≤ Limit.Slots → slots < count → some (Refusal.BadCount, 0) ≡ slotsCheck slots loads count
+    unfolding orElse
+    count-above h b = rw (eq-eqb _ _ e, le-ltb _ _ h, lt-ltb _ _ b) refl
+
+    pub count-fits : slots ≤ Limit.Slots → count ≤ slots → none ≡ slotsCheck slots loads count
+    unfolding orElse
+    count-fits h b = rw (eq-eqb _ _ e, le-ltb _ _ h, le-ltb _ _ b) refl
+
+-- the flags, and a word's kind
+pub flags-above : (flags : ℕ) → Limit.Flags < flags → some (Refusal.BadFlags, 0) ≡ flagsCheck flags
+flags-above flags h = rw (lt-ltb _ _ h) refl
+
+pub flags-fit : (flags : ℕ) → flags ≤ Limit.Flags → none ≡ flagsCheck flags
+flags-fit flags h = rw (le-ltb _ _ h) refl
+
+module _ (kind : ℕ) where
+  pub kind-below : kind < BaseToken.Word8 → some (Refusal.BadWordKind, 0) ≡ wordCheck kind
+  kind-below h = rw (lt-ltb _ _ h) refl
+
+  pub kind-above : BaseToken.Word8 ≤ kind → BaseToken.Word128 < kind → some (Refusal.BadWordKind, 0) ≡ wordCheck kind
+  kind-above h b = rw (le-ltb _ _ h, lt-ltb _ _ b) refl
+
+  pub kind-fits : BaseToken.Word8 ≤ kind → kind ≤ BaseToken.Word128 → none ≡ wordCheck kind
+  kind-fits h b = rw (le-ltb _ _ h, le-ltb _ _ b) refl
+
+-- several checks in their order
+module _ {x a s A : Check} (e : x ≡ orElse a s) (f : a ≡ A) where
+  pub two-checked : {B : Check} → s ≡ B → x ≡ failing (A ∷ B ∷ [])
+  two-checked {B} g = both e f (g ∙ sym (last-check B))
+
+  module _ {b t B : Check} (g : s ≡ orElse b t) (h : b ≡ B) where
+    pub three-checked : {C : Check} → t ≡ C → x ≡ failing (A ∷ B ∷ C ∷ [])
+    three-checked {C} i = both e f (both g h (i ∙ sym (last-check C)))
+
+    pub five-checked :
+        {c u C : Check} → t ≡ orElse c u → c ≡ C → {d v D : Check} → u ≡ orElse d v → d ≡ D → {E : Check} → v ≡ E →
+        x ≡ failing (A ∷ B ∷ C ∷ D ∷ E ∷ [])
+    five-checked i j k l {E} m = both e f (both g h (both i j (both k l (m ∙ sym (last-check E)))))
+
+-- what passed
+both-passed : (a b : Check) → orElse a b ≡ none → (a ≡ none) × (b ≡ none)
+unfolding orElse
+both-passed none b e = (refl, e)
+both-passed (some r) b e = let z : _≡_ {A = ℕ} 0 1 = cc in absurd (omega arith)
+
+passed : (w : Bool) (n x : ℕ) → check w n x ≡ none → w ≡ false
+passed true n x e = let z : _≡_ {A = ℕ} 0 1 = cc in absurd (omega arith)
+passed false n x e = refl
+
+neither : (a b : Bool) → or a b ≡ false → (a ≡ false) × (b ≡ false)
+neither true b e = absurd (true≢false e)
+neither false b e = (refl, e)
+
+negation : (t : Bool) → not t ≡ false → t ≡ true
+negation true e = refl
+negation false e = absurd (true≢false e)
+
+same : (a b : ℕ) → unequal a b ≡ false → a ≡ b
+same a b e = eqb-true a b (negation (eqb a b) e)
+
+-- the size of a row whose check passed
+row-sized : (tk tv : List ℕ) → rowCheck (row tk tv) ≡ none → (length tv ≡ length tk) × (length tk ≤ Limit.Tokens)
+row-sized tk tv e =
+    let unlike = unequal (length tv) (length tk) in
+    let many = ltb Limit.Tokens (length tk) in
+    let (a, b) = neither unlike (or (eqb (length tk) 0) many) (passed _ _ _ (both-passed _ _ e .0)) in
+    (same _ _ a, ltb-false _ _ (neither (eqb (length tk) 0) many b .1))
+
+place-inside : (tk tv : List ℕ) (c : ℕ) → placeCheck (row tk tv) c ≡ none → c < length tk
+place-inside tk tv c e = ltb-true _ _ (negation (ltb c (length tk)) (passed _ _ _ e))
+
+slots-sized :
+    (slots loads k : ℕ) → slotsCheck slots loads k ≡ none → (loads ≡ slots) × (slots ≤ Limit.Slots) × (k ≤ slots)
+slots-sized slots loads k e =
+    let (a, b) = both-passed _ _ e in
+    let (f, g) = neither (unequal loads slots) (ltb Limit.Slots slots) (passed _ _ _ a) in
+    (same _ _ f, ltb-false _ _ g, ltb-false _ _ (passed _ _ _ (both-passed _ _ b .0)))
+
+-- what every reader takes for granted holds where the checks passed
+module _ {tk tv ns ls : List ℕ} {c k : ℕ} where
+  all-sized :
+      rowCheck (row tk tv) ≡ none → placeCheck (row tk tv) c ≡ none → slotsCheck (length ns) (length ls) k ≡ none →
+      Sized tk tv ns ls c k
+  all-sized r p s =
+      let (a, b) = row-sized tk tv r in
+      let d = place-inside tk tv c p in
+      let (e, f, g) = slots-sized (length ns) (length ls) k s in
+      record { types = a; tokens = b; at = omega arith; loads = e; slots = f; used = g }
+
+  input-passed : inputCheck (row tk tv) c (length ns) (length ls) k ≡ none → Sized tk tv ns ls c k
+  input-passed e =
+      let (r, s) = both-passed _ _ e in
+      let (p, t) = both-passed _ _ s in
+      all-sized r p (both-passed _ _ t .0)
+
+  declaration-passed :
+      (start flags : ℕ) → declarationCheck (row tk tv) c (length ns) (length ls) k start flags ≡ none →
+      Sized tk tv ns ls c k
+  declaration-passed start flags e =
+      let (r, s) = both-passed _ _ e in
+      let (p, t) = both-passed _ _ s in
+      let (_, u) = both-passed _ _ t in
+      all-sized r p (both-passed _ _ u .0)
+
+  module _ {t : Checked} (g : t ≡ Passed) where
+    pub input-sized : checkOf t ≡ inputCheck (row tk tv) c (length ns) (length ls) k → Sized tk tv ns ls c k
+    input-sized f = input-passed (sym f ∙ ap checkOf g)
+
+    pub declaration-sized :
+        (start flags : ℕ) → checkOf t ≡ declarationCheck (row tk tv) c (length ns) (length ls) k start flags →
+        Sized tk tv ns ls c k
+    declaration-sized start flags f = declaration-passed start flags (sym f ∙ ap checkOf g)
+
+    pub word-sized :
+        (start flags kind : ℕ) →
+        checkOf t ≡ wordDeclarationCheck (row tk tv) c (length ns) (length ls) k start flags kind →
+        Sized tk tv ns ls c k
+    word-sized start flags kind f =
+        declaration-passed start flags (both-passed _ _ (sym f ∙ ap checkOf g) .0)
+
+-- the count of a reply is that of the columns
+counted : (res : Result ℕ) (p k : ℕ) → countOf (answer parsed res p k) ≡ k
+counted (ok a) p k = refl
+counted (no n x y) p k = refl
+
+-- an entry's promise where its check refused
+pub check-refused :
+    {m : Rule Nodes ℕ} {q : Rule (Unit {0}) Tree} {e : Check} (c k : ℕ) {ns ls : List ℕ} {t : Checked} →
+    checkOf t ≡ e → {n : ℕ} {x : TokenId} → t ≡ Failed n x →
+    Promise e m q c (nodes ns ls k) (Refused n x x (token c) k) ns ls
+unfolding checked
+check-refused {e = e} c k f {n} {x} g =
+    let w : some (n, x .0) ≡ e = sym (ap checkOf g) ∙ f in
+    rw (← w) record {
+      equal = declines stays;
+      frame = record { kinds-kept = refl; loads-kept = refl; below = λ i h. (refl, refl); above = λ i h. (refl, refl) };
+      accepted = λ root cursor count d. let z : _≡_ {A = ℕ} 0 1 = cc in absurd (omega arith);
+      refused = λ d n x y p j r v. let z : _≡_ {A = ℕ} 0 1 = cc in absurd (omega arith);
+    }
+
+-- and where it passed
+module _ {rule : Row} {m : Rule Nodes ℕ} {q : Rule (Unit {0}) Tree} (D : Demand.Demand rule m q) (tk tv : List ℕ)
+    (c k : ℕ) {e : Check} {ns ls : List ℕ} where
+  module _ {t : Checked} (f : checkOf t ≡ e) (g : t ≡ Passed) (y : Sized tk tv ns ls c k) {r : Parsed}
+      {ks' ls' : List ℕ} (d : Gives m c (nodes ns ls k) r ks' ls') where
+    z : Demand.Sized (nodes ns ls k)
+    z = record { even = y .loads; room = y .used }
+
+    left-columns : m c (nodes ns ls k) .state ≡ nodes ks' ls' (countOf r)
+    left-columns =
+        let s = m c (nodes ns ls k) .state in
+        let h : countOf r ≡ s .count = ap countOf (d .reply) ∙ counted (m c (nodes ns ls k) .result) _ _ in
+        rw (d .kinds, d .loads, h) refl
+
+    framed : Frame (nodes ns ls k) (nodes ks' ls' (countOf r))
+    framed =
+        let w = D .kept (nodes ns ls k) c z in
+        rw (← left-columns) record {
+          kinds-kept = w .kinds;
+          loads-kept = w .loads ∙ w .kinds ∙ sym (z .even);
+          below = w .before;
+          above = w .after;
+        }
+
+    accepts :
+        (root : NodeId) (cursor : TokenId) (count : ℕ) → r ≡ Node root cursor count →
+        Accepted q c k (nodes ks' ls' count) (root .0) (cursor .0)
+    accepts root cursor count h =
+        let o = came-read plain-parsed d h .same in
+        let i : m c (nodes ns ls k) .result ≡ ok (root .0) = ap (λ (p : Outcome Nodes ℕ). p .result) o in
+        let j : m c (nodes ns ls k) .cursor ≡ cursor .0 = ap (λ (p : Outcome Nodes ℕ). p .cursor) o in
+        let l : m c (nodes ns ls k) .state ≡ nodes ks' ls' count = ap (λ (p : Outcome Nodes ℕ). p .state) o in
+        let a = D .accepted (nodes ns ls k) c (root .0) z i in
+        record {
+          tree = a .tree;
+          read = a .same;
+          taken = a .cursor ∙ j;
+          whole = subst (λ (s : Nodes). Whole s k (root .0) (a .tree)) l (a .whole);
+          last = a .last ∙ ap (λ (s : Nodes). s .count) l;
+        }
+
+    refuses :
+        (n : ℕ) (x y p : TokenId) (j : ℕ) → r ≡ Refused n x y p j → n ≢ Refusal.NoSlot →
+        Refuses q c n (x .0) (y .0) (p .0)
+    refuses n x y p j h v =
+        let o = came-refused plain-parsed d h .same in
+        let i : m c (nodes ns ls k) .result ≡ no n (x .0) (y .0) = ap (λ (p : Outcome Nodes ℕ). p .result) o in
+        let a = D .refused (nodes ns ls k) c n (x .0) (y .0) z i v in
+        record { refused = a .0; at = a .1 ∙ ap (λ (p : Outcome Nodes ℕ). p .cursor) o }
+
+    rule-followed : Promise e m q c (nodes ns ls k) r ks' ls'
+    unfolding checked
+    rule-followed =
+        let w : none ≡ e = sym (ap checkOf g) ∙ f in
+        rw (← w) record { equal = d; frame = framed; accepted = accepts; refused = λ _. refuses }
+
+-- the promise of each entry, where its check passed and it parsed
+module _ (tk tv : List ℕ) (c k : ℕ) {ns ls : List ℕ} {t : Checked} (g : t ≡ Passed) {r : Parsed} {ks' ls' :
+    List ℕ} where
+  module _ (f : checkOf t ≡ inputCheck (row tk tv) c (length ns) (length ls) k) where
+    pub expression-followed :
+        Gives (expression columns (row tk tv) Limit.Nesting) c (nodes ns ls k) r ks' ls' →
+        Expression (row tk tv) c (nodes ns ls k) r ks' ls'
+    expression-followed d = rule-followed (expressions (row tk tv) Limit.Nesting) tk tv c k f g (input-sized g f) d
+
+    pub type-followed :
+        Gives (type columns (row tk tv) Limit.Nesting) c (nodes ns ls k) r ks' ls' →
+        Type' (row tk tv) c (nodes ns ls k) r ks' ls'
+    type-followed d = rule-followed (types (row tk tv) Limit.Nesting) tk tv c k f g (input-sized g f) d
+
+  module _ (start flags : ℕ)
+      (f : checkOf t ≡ declarationCheck (row tk tv) c (length ns) (length ls) k start flags) where
+    pub constant-followed :
+        Gives (constant columns (row tk tv) Limit.Nesting start flags) c (nodes ns ls k) r ks' ls' →
+        Constant (row tk tv) c (nodes ns ls k) start flags r ks' ls'
+    constant-followed d =
+        rule-followed (constants (row tk tv) Limit.Nesting start flags) tk tv c k f g
+        (declaration-sized g start flags f) d
+
+    pub struct-followed :
+        Gives (struct columns (row tk tv) Limit.Nesting start flags) c (nodes ns ls k) r ks' ls' →
+        Struct (row tk tv) c (nodes ns ls k) start flags r ks' ls'
+    struct-followed d =
+        rule-followed (structs (row tk tv) Limit.Nesting start flags) tk tv c k f g
+        (declaration-sized g start flags f) d
+
+  pub word-followed :
+      (start flags kind : ℕ) →
+      checkOf t ≡ wordDeclarationCheck (row tk tv) c (length ns) (length ls) k start flags kind →
+      Gives (word columns (row tk tv) Limit.Nesting start flags kind) c (nodes ns ls k) r ks' ls' →
+      Word (row tk tv) c (nodes ns ls k) start flags kind r ks' ls'
+  word-followed start flags kind f d =
+      rule-followed (words (row tk tv) Limit.Nesting start flags kind) tk tv c k f g (word-sized g start flags kind f) d

@@ -1,0 +1,4 @@
+pub mod Answer
+pub mod Checks
+pub mod Promise
+pub mod Stars

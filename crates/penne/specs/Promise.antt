@@ -1,0 +1,93 @@
+-- What each public entry promises, for every input.
+use Prim.Native.Nat.{ℕ, _+_, _≤_, _<_}
+use mathlib.Core.Logic.{_≢_}
+use mathlib.Core.Path.{_≡_}
+use mathlib.Core.List.{List}
+use mathlib.Core.Option.{none}
+use lib.ListN.{length}
+use Rattle.codes.specs.declared.Parsed.{Parsed}
+use Rattle.codes.specs.declared.Parsed.the-variants.{Node, Refused}
+use Rattle.codes.specs.declared.NodeId.{NodeId}
+use Rattle.codes.specs.declared.TokenId.{TokenId}
+use Rattle.codes.specs.Answer.{Gives, nodes}
+use Rattle.rules.specs.Codes.Refusal as Refusal
+use Rattle.rules.specs.Codes.Limit as Limit
+use Rattle.rules.specs.Reading.{Rule, Row, ok, no}
+use Rattle.rules.specs.Trees.{Tree, trees}
+use Rattle.rules.specs.Columns.{Nodes, columns}
+use Rattle.rules.specs.Ways.{kindAt, loadAt, Whole}
+use Rattle.rules.specs.Types.{type}
+use Rattle.rules.specs.Expressions.{expression}
+use Rattle.rules.specs.Declarations.{constant, struct, word}
+use Rattle.penne.specs.Checks.{Check, checked, inputCheck, declarationCheck, wordDeclarationCheck}
+
+-- the node count of a reply
+abbrev pub countOf : Parsed → ℕ
+countOf (Node root cursor count) = count
+countOf (Refused number start end cursor count) = count
+
+-- The frame: the columns s are o but for the nodes from the given count up to the replied one, which is that of s.
+pub record Frame (o s : Nodes) : Type 0 where
+  pub kinds-kept : length (s .kinds) ≡ length (o .kinds)
+  pub loads-kept : length (s .loads) ≡ length (o .loads)
+  pub below : (m : ℕ) → m < o .count → (kindAt s m ≡ kindAt o m) × (loadAt s m ≡ loadAt o m)
+  pub above : (m : ℕ) → s .count ≤ m → (kindAt s m ≡ kindAt o m) × (loadAt s m ≡ loadAt o m)
+
+-- Demand 3 of an accepted parse: the rule q with trees, from the given cursor c, reads the tree that stands along the
+-- ways from the root in the columns s at exit, and takes the same tokens.
+pub record Accepted (q : Rule (Unit {0}) Tree) (c given : ℕ) (s : Nodes) (root cursor : ℕ) : Type 0 where
+  pub tree : Tree
+  pub read : q c tt .result ≡ ok tree
+  pub taken : q c tt .cursor ≡ cursor
+  pub whole : Whole s given root tree
+  pub last : root + 1 ≡ s .count
+
+-- The rule q with trees refuses with the same number, start, end and cursor.
+pub record Refuses (q : Rule (Unit {0}) Tree) (c number start end cursor : ℕ) : Type 0 where
+  pub refused : q c tt .result ≡ no number start end
+  pub at : q c tt .cursor ≡ cursor
+
+-- An entry with the check e, the rule m with columns and q with trees replies r from the cursor c and the columns o, and
+-- leaves the columns ks (kinds) and ls (loads).
+pub record Promise (e : Check) (m : Rule Nodes ℕ) (q : Rule (Unit {0}) Tree) (c : ℕ) (o : Nodes) (r : Parsed)
+    (ks ls : List ℕ) : Type 0 where
+  -- the reply and every slot equal the definition
+  pub equal : Gives (checked e m) c o r ks ls
+  pub frame : Frame o (nodes ks ls (countOf r))
+  pub accepted :
+      (root : NodeId) (cursor : TokenId) (count : ℕ) → r ≡ Node root cursor count →
+      Accepted q c (o .count) (nodes ks ls count) (root .0) (cursor .0)
+  -- a refusal while parsing, unless the slots are used up
+  pub refused :
+      e ≡ none → (number : ℕ) (start end cursor : TokenId) (count : ℕ) → r ≡ Refused number start end cursor count →
+      number ≢ Refusal.NoSlot → Refuses q c number (start .0) (end .0) (cursor .0)
+
+module _ (row : Row) (c : ℕ) (o : Nodes) where
+  -- the slots of both columns and the count, as the checks take them
+  abbrev of : (ℕ → ℕ → ℕ → Check) → Check
+  of f = f (length (o .kinds)) (length (o .loads)) (o .count)
+
+  abbrev pub Expression : Parsed → List ℕ → List ℕ → Type 0
+  Expression =
+      Promise (of (inputCheck row c)) (expression columns row Limit.Nesting) (expression trees row Limit.Nesting) c o
+
+  abbrev pub Type' : Parsed → List ℕ → List ℕ → Type 0
+  Type' = Promise (of (inputCheck row c)) (type columns row Limit.Nesting) (type trees row Limit.Nesting) c o
+
+  abbrev pub Constant : ℕ → ℕ → Parsed → List ℕ → List ℕ → Type 0
+  Constant start flags =
+      Promise (of (λ slots loads count. declarationCheck row c slots loads count start flags))
+      (constant columns row Limit.Nesting start flags)
+      (constant trees row Limit.Nesting start flags) c o
+
+  abbrev pub Struct : ℕ → ℕ → Parsed → List ℕ → List ℕ → Type 0
+  Struct start flags =
+      Promise (of (λ slots loads count. declarationCheck row c slots loads count start flags))
+      (struct columns row Limit.Nesting start flags)
+      (struct trees row Limit.Nesting start flags) c o
+
+  abbrev pub Word : ℕ → ℕ → ℕ → Parsed → List ℕ → List ℕ → Type 0
+  Word start flags kind =
+      Promise (of (λ slots loads count. wordDeclarationCheck row c slots loads count start flags kind))
+      (word columns row Limit.Nesting start flags kind)
+      (word trees row Limit.Nesting start flags kind) c o

@@ -1,0 +1,427 @@
+// The five public entries, under the Rust's names: each checks its input in document 01's order, and then parses. They ask
+// nothing of their input: any rows, cursors and columns get a reply. What they promise stands in specs/Promise.antt.
+ghost use mathlib.Core.Path.{_≡_};
+ghost use Prim.Native.Nat.{_≤_, _+_};
+ghost use lib.ListN.{length};
+ghost use Rattle.rules.specs.Codes.Limit as Most;
+ghost use Rattle.codes.specs.Answer.{row, nodes};
+ghost use Rattle.penne.specs.Answer.{checkOf};
+ghost use Rattle.penne.specs.Checks.{orElse, badToken, lastCheck, rowCheck, placeCheck, slotsCheck, flagsCheck, wordCheck, inputCheck, declarationCheck, wordDeclarationCheck};
+ghost use Rattle.penne.specs.Promise.{Expression, Type', Constant, Struct, Word};
+use codes::BaseToken;
+use codes::Limit;
+use codes::Parsed;
+use codes::Refusal;
+use codes::TokenId;
+use codes::ValueTypeKeyword;
+
+// Whether the input passed some checks, or the number and start of the first refusal.
+enum Checked {
+    Passed,
+    Failed { number: u8, start: TokenId },
+}
+
+// The first check's answer, or the second one's where the first passed.
+fn or_else(first: Checked, second: Checked) -> Checked
+    ensures { λ r. ⌜ checkOf r ≡ orElse (checkOf first) (checkOf second) ⌝ }
+{
+    match first {
+        Checked::Passed => second,
+        Checked::Failed { number, start } => Checked::Failed { number, start },
+    }
+}
+
+// The first token whose kind or value type is above the last one.
+fn check_tokens(kinds: &[u8], types: &[u8]) -> Checked
+    requires { ⌜ (length (now types) ≡ length (now kinds)) × (length (now kinds) ≤ Most.Tokens) ⌝ }
+    ensures { λ r. ⌜ checkOf r ≡ badToken (row (now (kinds .entry)) (now (types .entry))) 0 (length (now (kinds .entry))) ⌝ }
+{
+    let mut place: usize = 0;
+    while place < kinds.len() {
+        if kinds[place] > BaseToken::Error {
+            return Checked::Failed {
+                number: Refusal::BadToken,
+                start: TokenId(place as u32),
+            };
+        }
+        if types[place] > ValueTypeKeyword::Bool {
+            return Checked::Failed {
+                number: Refusal::BadToken,
+                start: TokenId(place as u32),
+            };
+        }
+        place = place + 1;
+    }
+    Checked::Passed
+}
+
+// The last token of a row.
+fn check_last(kinds: &[u8]) -> Checked
+    requires { ⌜ (1 ≤ length (now kinds)) × (length (now kinds) ≤ Most.Tokens) ⌝ }
+    ensures { λ r. ⌜ checkOf r ≡ lastCheck (row (now (kinds .entry)) (now (kinds .entry))) ⌝ }
+{
+    let last = kinds.len() - 1;
+    if kinds[last] == BaseToken::EndOfSource {
+        Checked::Passed
+    } else {
+        Checked::Failed {
+            number: Refusal::NoEndOfSource,
+            start: TokenId(last as u32),
+        }
+    }
+}
+
+// The row's size, its tokens, and its last token.
+fn check_row(kinds: &[u8], types: &[u8]) -> Checked
+    ensures { λ r. ⌜ checkOf r ≡ rowCheck (row (now (kinds .entry)) (now (types .entry))) ⌝ }
+{
+    let size = kinds.len();
+    let bad_row = Checked::Failed {
+        number: Refusal::BadRow,
+        start: TokenId(0),
+    };
+    if types.len() != size {
+        return bad_row;
+    }
+    if size == 0 {
+        return bad_row;
+    }
+    if size > Limit::Tokens as usize {
+        return bad_row;
+    }
+    or_else(check_tokens(kinds, types), check_last(kinds))
+}
+
+// A cursor or a declaration's start, in a row of so many tokens.
+fn check_place(kinds: &[u8], place: TokenId) -> Checked
+    ensures { λ r. ⌜ checkOf r ≡ placeCheck (row (now (kinds .entry)) (now (kinds .entry))) (place .0) ⌝ }
+{
+    if (place.0 as usize) < kinds.len() {
+        Checked::Passed
+    } else {
+        Checked::Failed {
+            number: Refusal::BadCursor,
+            start: TokenId(0),
+        }
+    }
+}
+
+// The slots of the node columns, and the node count.
+fn check_slots(slots: usize, loads: usize, count: u32) -> Checked
+    ensures { λ r. ⌜ checkOf r ≡ slotsCheck slots loads count ⌝ }
+{
+    let bad_columns = Checked::Failed {
+        number: Refusal::BadColumns,
+        start: TokenId(0),
+    };
+    if loads != slots {
+        return bad_columns;
+    }
+    if slots > Limit::Slots as usize {
+        return bad_columns;
+    }
+    if (count as usize) > slots {
+        Checked::Failed {
+            number: Refusal::BadCount,
+            start: TokenId(0),
+        }
+    } else {
+        Checked::Passed
+    }
+}
+
+// The flags of a declaration.
+fn check_flags(flags: u32) -> Checked
+    ensures { λ r. ⌜ checkOf r ≡ flagsCheck flags ⌝ }
+{
+    if flags > Limit::Flags {
+        Checked::Failed {
+            number: Refusal::BadFlags,
+            start: TokenId(0),
+        }
+    } else {
+        Checked::Passed
+    }
+}
+
+// The declaring token of a word.
+fn check_word(kind: u8) -> Checked
+    ensures { λ r. ⌜ checkOf r ≡ wordCheck kind ⌝ }
+{
+    let bad_kind = Checked::Failed {
+        number: Refusal::BadWordKind,
+        start: TokenId(0),
+    };
+    if kind < BaseToken::Word8 {
+        return bad_kind;
+    }
+    if kind > BaseToken::Word128 {
+        return bad_kind;
+    }
+    Checked::Passed
+}
+
+// What an expression and a type are checked for.
+fn check_input(
+    kinds: &[u8],
+    types: &[u8],
+    cursor: TokenId,
+    slots: usize,
+    loads: usize,
+    count: u32,
+) -> Checked
+    ensures { λ r. ⌜ checkOf r ≡ inputCheck (row (now (kinds .entry)) (now (types .entry))) (cursor .0) slots loads count ⌝ }
+{
+    let state = or_else(check_place(kinds, cursor), check_slots(slots, loads, count));
+    or_else(check_row(kinds, types), state)
+}
+
+// What a constant and a struct are checked for.
+fn check_declaration(
+    kinds: &[u8],
+    types: &[u8],
+    cursor: TokenId,
+    slots: usize,
+    loads: usize,
+    count: u32,
+    start: TokenId,
+    flags: u32,
+) -> Checked
+    ensures { λ r. ⌜ checkOf r ≡ declarationCheck (row (now (kinds .entry)) (now (types .entry))) (cursor .0) slots loads count (start .0) flags ⌝ }
+{
+    let state = or_else(check_slots(slots, loads, count), check_flags(flags));
+    let places = or_else(check_place(kinds, start), state);
+    or_else(
+        check_row(kinds, types),
+        or_else(check_place(kinds, cursor), places),
+    )
+}
+
+// What a word is checked for.
+fn check_word_declaration(
+    kinds: &[u8],
+    types: &[u8],
+    cursor: TokenId,
+    slots: usize,
+    loads: usize,
+    count: u32,
+    start: TokenId,
+    flags: u32,
+    kind: u8,
+) -> Checked
+    ensures { λ r. ⌜ checkOf r ≡ wordDeclarationCheck (row (now (kinds .entry)) (now (types .entry))) (cursor .0) slots loads count (start .0) flags kind ⌝ }
+{
+    let declaration = check_declaration(kinds, types, cursor, slots, loads, count, start, flags);
+    or_else(declaration, check_word(kind))
+}
+
+// An expression from the cursor on.
+pub fn parse_expression(
+    kinds: &[u8],
+    types: &[u8],
+    cursor: TokenId,
+    node_kinds: &mut [u8],
+    node_loads: &mut [u32],
+    count: u32,
+) -> Parsed
+    ensures { λ r. ⌜ Expression (row (now (kinds .entry)) (now (types .entry))) (cursor .0) (nodes (now («node_kinds» .entry)) (now («node_loads» .entry)) count) r (now («node_kinds» .exit)) (now («node_loads» .exit)) ⌝ }
+{
+    let slots = node_kinds.len();
+    let loads = node_loads.len();
+    match check_input(kinds, types, cursor, slots, loads, count) {
+        Checked::Passed => {
+            expressions::parse_expression(
+                kinds,
+                types,
+                node_kinds,
+                node_loads,
+                cursor,
+                count,
+                Limit::Nesting,
+            )
+        }
+        Checked::Failed { number, start } => Parsed::Refused {
+            number,
+            start,
+            end: start,
+            cursor,
+            count,
+        },
+    }
+}
+
+// A type from the cursor on.
+pub fn parse_type(
+    kinds: &[u8],
+    types: &[u8],
+    cursor: TokenId,
+    node_kinds: &mut [u8],
+    node_loads: &mut [u32],
+    count: u32,
+) -> Parsed
+    ensures { λ r. ⌜ Type' (row (now (kinds .entry)) (now (types .entry))) (cursor .0) (nodes (now («node_kinds» .entry)) (now («node_loads» .entry)) count) r (now («node_kinds» .exit)) (now («node_loads» .exit)) ⌝ }
+{
+    let slots = node_kinds.len();
+    let loads = node_loads.len();
+    match check_input(kinds, types, cursor, slots, loads, count) {
+        Checked::Passed => {
+            let unused = Limit::Nesting;
+            types::parse_type(kinds, types, node_kinds, node_loads, cursor, count, unused)
+        }
+        Checked::Failed {
+            number,
+            start: first,
+        } => Parsed::Refused {
+            number,
+            start: first,
+            end: first,
+            cursor,
+            count,
+        },
+    }
+}
+
+// A constant, from its name on. Its declaration, with these flags, begins at the token `start`.
+pub fn parse_constant_declaration(
+    kinds: &[u8],
+    types: &[u8],
+    cursor: TokenId,
+    node_kinds: &mut [u8],
+    node_loads: &mut [u32],
+    count: u32,
+    start: TokenId,
+    flags: u32,
+) -> Parsed
+    ensures { λ r. ⌜ Constant (row (now (kinds .entry)) (now (types .entry))) (cursor .0) (nodes (now («node_kinds» .entry)) (now («node_loads» .entry)) count) (start .0) flags r (now («node_kinds» .exit)) (now («node_loads» .exit)) ⌝ }
+{
+    match check_declaration(
+        kinds,
+        types,
+        cursor,
+        node_kinds.len(),
+        node_loads.len(),
+        count,
+        start,
+        flags,
+    ) {
+        Checked::Passed => {
+            let unused = Limit::Nesting;
+            declarations::parse_constant_declaration(
+                kinds,
+                types,
+                node_kinds,
+                node_loads,
+                cursor,
+                count,
+                unused,
+                start,
+                flags,
+            )
+        }
+        Checked::Failed {
+            number,
+            start: place,
+        } => Parsed::Refused {
+            number,
+            start: place,
+            end: place,
+            cursor,
+            count,
+        },
+    }
+}
+
+// A struct, from its name on. Its declaration, with these flags, begins at the token `start`.
+pub fn parse_struct_declaration(
+    kinds: &[u8],
+    types: &[u8],
+    cursor: TokenId,
+    node_kinds: &mut [u8],
+    node_loads: &mut [u32],
+    count: u32,
+    start: TokenId,
+    flags: u32,
+) -> Parsed
+    ensures { λ r. ⌜ Struct (row (now (kinds .entry)) (now (types .entry))) (cursor .0) (nodes (now («node_kinds» .entry)) (now («node_loads» .entry)) count) (start .0) flags r (now («node_kinds» .exit)) (now («node_loads» .exit)) ⌝ }
+{
+    let slots = node_kinds.len();
+    let loads = node_loads.len();
+    match check_declaration(kinds, types, cursor, slots, loads, count, start, flags) {
+        Checked::Passed => {
+            let unused = Limit::Nesting;
+            declarations::parse_struct_declaration(
+                kinds,
+                types,
+                node_kinds,
+                node_loads,
+                cursor,
+                count,
+                unused,
+                start,
+                flags,
+            )
+        }
+        Checked::Failed { number, start: at } => Parsed::Refused {
+            number,
+            start: at,
+            end: at,
+            cursor,
+            count,
+        },
+    }
+}
+
+// A word, from its name on, by its declaring token. Its declaration, with these flags, begins at the token `start`.
+pub fn parse_word_declaration(
+    kinds: &[u8],
+    types: &[u8],
+    cursor: TokenId,
+    node_kinds: &mut [u8],
+    node_loads: &mut [u32],
+    count: u32,
+    start: TokenId,
+    flags: u32,
+    declaring_token: u8,
+) -> Parsed
+    ensures { λ r. ⌜ Word (row (now (kinds .entry)) (now (types .entry))) (cursor .0) (nodes (now («node_kinds» .entry)) (now («node_loads» .entry)) count) (start .0) flags «declaring_token» r (now («node_kinds» .exit)) (now («node_loads» .exit)) ⌝ }
+{
+    let slots = node_kinds.len();
+    let loads = node_loads.len();
+    match check_word_declaration(
+        kinds,
+        types,
+        cursor,
+        slots,
+        loads,
+        count,
+        start,
+        flags,
+        declaring_token,
+    ) {
+        Checked::Passed => {
+            let unused = Limit::Nesting;
+            declarations::parse_word_declaration(
+                kinds,
+                types,
+                node_kinds,
+                node_loads,
+                cursor,
+                count,
+                unused,
+                start,
+                flags,
+                declaring_token,
+            )
+        }
+        Checked::Failed {
+            number,
+            start: token,
+        } => Parsed::Refused {
+            number,
+            start: token,
+            end: token,
+            cursor,
+            count,
+        },
+    }
+}
