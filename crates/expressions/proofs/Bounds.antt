@@ -18,7 +18,6 @@ use Rattle.tokens.specs.declared.Optional.{Optional}
 use Rattle.tokens.specs.declared.Consumed.{Consumed}
 use Rattle.tokens.specs.declared.Consumed.the-variants.{Next}
 use Rattle.tokens.specs.Answer.{kindIn, Optionally, consumed, consuming}
-use Rattle.tokens.proofs.Laws.{not-found}
 use Rattle.tokens.proofs.Bounds.{past-optional, past-token, past-consumed, same-count, in-row}
 use Rattle.casts.specs.Answer.{Casting}
 use Rattle.lists.specs.declared.Owner.{Owner}
@@ -57,30 +56,21 @@ module _ {tk tv ns ls : List ℕ} {c k : ℕ} (u : ℕ) {r : Parsed} {ns' ls' : 
       moved (came-read plain-parsed g q) (expression-moves (below (row tk tv)) (omega arith) u c) (z .used) (z .at) in
       omega (arith, w .grew)
 
--- where the closing token of a list is not there
-pub item-sized :
-    {tk tv ns ls : List ℕ} {c k : ℕ} (closing : ℕ) {o : Optional} → Optionally tk closing c o → o .found ≡ false →
-    Sized tk tv ns ls c k → Sized tk tv ns ls (o .cursor .0) k
-item-sized closing d x z = rw (not-found d x) z
-
 -- after the name of a field, and the colon after it, if there is one
 module _ {tk tv ns ls : List ℕ} {c k : ℕ} {o : Consumed} (g : Quiet consumed (consuming BaseToken.Identifier) tk c k o)
     {p : TokenId} {j : ℕ} (q : o ≡ Next p j) (z : Sized tk tv ns ls c k) where
   pub past-name : p .0 ≤ Limit.Tokens + 1
   past-name = let y = past-consumed _ g q refl z in omega arith
 
+  pub field-slots : Slots ns ls j
+  field-slots = slots (past-consumed _ g q refl z)
+
   pub name-kept : {n : ℕ} → n ≤ k → n ≤ j
   name-kept h = let e = same-count _ g q in omega arith
 
-  module _ {v : Optional} (d : Optionally tk BaseToken.Colon (p .0) v) where
-    pub colon-sized : Sized tk tv ns ls (v .cursor .0) j
-    colon-sized = past-optional d refl (past-consumed _ g q refl z)
-
-    pub past-colon : v .cursor .0 ≤ Limit.Tokens + 1
-    past-colon = let y = colon-sized in omega arith
-
-    pub colon-slots : Slots ns ls j
-    colon-slots = slots colon-sized
+  pub colon-sized :
+      {v : Optional} → Optionally tk BaseToken.Colon (p .0) v → Sized tk tv ns ls (v .cursor .0) j
+  colon-sized d = past-optional d refl (past-consumed _ g q refl z)
 
 -- after the first tokens of a primary
 module _ (tk : List ℕ) (piped : Bool) (c k : ℕ) {o : Opening} (g : Starts piped tk c k o) {tv ks ls : List ℕ}

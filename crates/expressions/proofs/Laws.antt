@@ -17,7 +17,7 @@ use Rattle.tokens.specs.declared.Optional.{Optional}
 use Rattle.tokens.specs.declared.Consumed.{Consumed}
 use Rattle.tokens.specs.declared.Consumed.the-variants.{Next, Wrong}
 use Rattle.tokens.specs.Answer.{kindIn, Optionally, consumed, consuming}
-use Rattle.tokens.proofs.Laws.{optioned, negated, holding-consumed}
+use Rattle.tokens.proofs.Laws.{optioned, skipped, negated, holding-consumed}
 use Rattle.casts.specs.Answer.{Casting}
 use Rattle.references.specs.Answer.{closing}
 use Rattle.lists.specs.declared.Owner.{Owner}
@@ -40,7 +40,7 @@ use Rattle.rules.specs.Codes.Refusal as Refusal
 use Rattle.rules.specs.Codes.UnaryOp as UnaryOp
 use Rattle.rules.specs.Codes.BinaryOp as BinaryOp
 use Rattle.rules.specs.Codes.{pick}
-use Rattle.rules.specs.Reading.{Row, Rule, Result, ok, no, next, pure, choose, _>>=_}
+use Rattle.rules.specs.Reading.{Row, Rule, Result, ok, no, next, pure, choose, _>>=_, optional}
 use Rattle.rules.specs.Columns.{Nodes, columns}
 use Rattle.rules.specs.Types.{type}
 use Rattle.rules.specs.Expressions.{binary, advanced, singular, singularEnd, sizeOf, listItem, field, expression}
@@ -244,10 +244,9 @@ module _ (tk tv : List ℕ) (u c left : ℕ) {k : ℕ} {ks ls : List ℕ} {o : O
     (d : Optionally tk BaseToken.Dots c o) where
   pub advance-none :
       not (o .found) ≡ true →
-      Gives (within (advancing left) u (row tk tv)) c (nodes ks ls k) (Node (nodeId left) (o .cursor) k) ks ls
+      Gives (within (advancing left) u (row tk tv)) c (nodes ks ls k) (Node (nodeId left) (token c) k) ks ls
   unfolding within advancing advanced
-  advance-none x =
-      answers (at-here _ then reads _ (optioned d tv) then picked _ _ false (negated (o .found) x))
+  advance-none x = answers (at-here _ then reads _ (skipped d (negated (o .found) x) tv))
 
   module _ (x : not (o .found) ≡ false) {r₁ : Parsed} {ks₁ ls₁ : List ℕ}
       (g : Gives (expression columns (row tk tv) u) (o .cursor .0) (nodes ks ls k) r₁ ks₁ ls₁) where
@@ -360,20 +359,19 @@ module _ (tk tv : List ℕ) (u closing c : ℕ) (l : ActiveList) (items : ℕ) {
   module _ (x : o .found ≡ false) where
     pub item-field :
         closing ≡ BaseToken.BraceRight → {r : Turn} {ks' ls' : List ℕ} →
-        As turned (fields (ends l, items) u (row tk tv)) (o .cursor .0) (nodes ks ls k) r ks' ls' →
+        As turned (fields (ends l, items) u (row tk tv)) c (nodes ks ls k) r ks' ls' →
         As turned (listItems closing (ends l, items) u (row tk tv)) c (nodes ks ls k) r ks' ls'
     unfolding listItems listItem fields
-    item-field e f =
-        shows (reads _ (optioned d tv) then picked _ _ false x) (rw e f)
+    item-field e f = shows (reads _ (skipped d x tv)) (rw e f)
 
     module _ (h : closing ≡ BaseToken.BraceRight → ⊥) {r₁ : Parsed} {ks₁ ls₁ : List ℕ}
-        (g : Gives (expression columns (row tk tv) u) (o .cursor .0) (nodes ks ls k) r₁ ks₁ ls₁) where
+        (g : Gives (expression columns (row tk tv) u) c (nodes ks ls k) r₁ ks₁ ls₁) where
       pub item-stopped :
           {y : ℕ} {a e p : TokenId} {j : ℕ} → r₁ ≡ Refused y a e p j →
           As turned (listItems closing (ends l, items) u (row tk tv)) c (nodes ks ls k) (Stopped r₁) ks₁ ls₁
       unfolding listItems listItem
       item-stopped q =
-          rw (ne-eqb _ _ h) (hands-on _ (reads _ (optioned d tv) then picked _ _ false x) (told g q))
+          rw (ne-eqb _ _ h) (hands-on _ (reads _ (skipped d x tv)) (told g q))
 
       pub item-read :
           {n : NodeId} {p : TokenId} {j : ℕ} → r₁ ≡ Node n p j → {r : Turn} {ks' ls' : List ℕ} →
@@ -382,8 +380,7 @@ module _ (tk tv : List ℕ) (u closing c : ℕ) (l : ActiveList) (items : ℕ) {
       unfolding listItems listItem ending
       item-read q f =
           rw (ne-eqb _ _ h)
-          (shows
-          (reads _ (optioned d tv) then picked _ _ false x then reads _ (came-read plain-parsed g q)) (f .run tv))
+          (shows (reads _ (skipped d x tv) then reads _ (came-read plain-parsed g q)) (f .run tv))
 
 -- a field, and what stands after it
 module _ (tk tv : List ℕ) (u c : ℕ) (l : ActiveList) (items : ℕ) {k : ℕ} {ks ls : List ℕ} {o : Consumed}
@@ -397,33 +394,39 @@ module _ (tk tv : List ℕ) (u c : ℕ) (l : ActiveList) (items : ℕ) {k : ℕ}
 
   module _ {p : TokenId} {j : ℕ} (q : o ≡ Next p j) {v : Optional} (d : Optionally tk BaseToken.Colon (p .0) v) where
     field-on :
-        (b : Bool) → v .found ≡ b →
+        (b : Bool) {a : ℕ} →
+        Onto (optional (row tk tv) BaseToken.Colon) (p .0) (nodes ks ls j) (pure b) a (nodes ks ls j) →
         Onto (fields (ends l, items) u (row tk tv)) c (nodes ks ls k)
         (pick b (expression columns (row tk tv) u) (nameAlone columns c) >>= λ e.
-        fieldEnd (ends l, items) c e (row tk tv)) (v .cursor .0) (nodes ks ls j)
+        fieldEnd (ends l, items) c e (row tk tv)) a (nodes ks ls j)
     unfolding fields field consuming fieldEnd
     field-on b e =
         first _
-        (at-here _ then reads _ (came-read (holding-consumed .plain) (g .run tv ks ls) q) then
-        reads _ (optioned d tv) then first _ (picked _ _ b e)) then regroup _ _ _ _ _
+        (at-here _ then reads _ (came-read (holding-consumed .plain) (g .run tv ks ls) q) then reads _ e) then
+        regroup _ _ _ _ _
 
     pub field-short :
         not (v .found) ≡ true → {r : Turn} {ks' ls' : List ℕ} →
-        Untyped turned (shorthandEnd (ends l, items) c) tk (v .cursor .0) (nodes ks ls j) r ks' ls' →
+        Untyped turned (shorthandEnd (ends l, items) c) tk (p .0) (nodes ks ls j) r ks' ls' →
         As turned (fields (ends l, items) u (row tk tv)) c (nodes ks ls k) r ks' ls'
     unfolding shorthandEnd
-    field-short x f = shows (field-on false (negated (v .found) x)) (f .run tv)
+    field-short x f = shows (field-on false (skipped d (negated (v .found) x) tv)) (f .run tv)
 
     module _ (x : not (v .found) ≡ false) {r₁ : Parsed} {ks₁ ls₁ : List ℕ}
         (f : Gives (expression columns (row tk tv) u) (v .cursor .0) (nodes ks ls j) r₁ ks₁ ls₁) where
+      valued :
+          Onto (fields (ends l, items) u (row tk tv)) c (nodes ks ls k)
+          (expression columns (row tk tv) u >>= λ e. fieldEnd (ends l, items) c e (row tk tv)) (v .cursor .0)
+          (nodes ks ls j)
+      valued = field-on true (rw (negated (v .found) x) at (optioned d tv {s = nodes ks ls j}))
+
       pub field-stopped :
           {y : ℕ} {a e b : TokenId} {i : ℕ} → r₁ ≡ Refused y a e b i →
           As turned (fields (ends l, items) u (row tk tv)) c (nodes ks ls k) (Stopped r₁) ks₁ ls₁
-      field-stopped w = hands-on _ (field-on true (negated (v .found) x)) (told f w)
+      field-stopped w = hands-on _ valued (told f w)
 
       pub field-read :
           {n : NodeId} {b : TokenId} {i : ℕ} → r₁ ≡ Node n b i → {r : Turn} {ks' ls' : List ℕ} →
           Untyped turned (fieldEnd (ends l, items) c (n .0)) tk (b .0) (nodes ks₁ ls₁ i) r ks' ls' →
           As turned (fields (ends l, items) u (row tk tv)) c (nodes ks ls k) r ks' ls'
-      field-read w h =
-          shows (field-on true (negated (v .found) x) then reads _ (came-read plain-parsed f w)) (h .run tv)
+      field-read w h = shows (valued then reads _ (came-read plain-parsed f w)) (h .run tv)

@@ -508,7 +508,7 @@ fn advance(
     if !dots.found {
         return Parsed::Node {
             root: left,
-            cursor: from,
+            cursor,
             count,
         };
     }
@@ -617,14 +617,14 @@ fn item(
             types,
             node_kinds,
             node_loads,
-            from,
+            cursor,
             count,
             unused,
             list,
             items,
         );
     }
-    let item = parse_expression(kinds, types, node_kinds, node_loads, from, count, unused);
+    let item = parse_expression(kinds, types, node_kinds, node_loads, cursor, count, unused);
     let Parsed::Node {
         root,
         cursor: after,
@@ -673,7 +673,7 @@ fn field(
                     kinds,
                     node_kinds,
                     node_loads,
-                    from,
+                    after,
                     same,
                     list,
                     items,

@@ -16,7 +16,7 @@ use Rattle.tokens.specs.declared.Consumed.{Consumed}
 use Rattle.tokens.specs.declared.Consumed.the-variants.{Next, Wrong}
 use Rattle.tokens.specs.declared.Optional.{Optional}
 use Rattle.tokens.specs.Answer.{consumed, consuming, Optionally}
-use Rattle.tokens.proofs.Laws.{holding-consumed, optioned}
+use Rattle.tokens.proofs.Laws.{holding-consumed, optioned, skipped}
 use Rattle.nodes.specs.declared.ActiveList.{ActiveList}
 use Rattle.nodes.specs.declared.Listed.{Listed}
 use Rattle.nodes.specs.declared.Listed.the-variants.{List as Items, Full}
@@ -79,7 +79,7 @@ module _ (closing : ℕ) (l : ActiveList) (i : ℕ) {tk : List ℕ} {c k : ℕ} 
         rw (active-ends l) at z;
   }
 
-  module _ (e : o .found ≡ false) {q : Consumed} (d : Quiet consumed (consuming closing) tk (o .cursor .0) k q) where
+  module _ (e : o .found ≡ false) {q : Consumed} (d : Quiet consumed (consuming closing) tk c k q) where
     pub list-closed :
         {p : TokenId} {j : ℕ} → q ≡ Next p j → Quiet turned (separating closing (ends l, i)) tk c k (Last l i p j)
     unfolding separating separator consuming
@@ -87,8 +87,7 @@ module _ (closing : ℕ) (l : ActiveList) (i : ℕ) {tk : List ℕ} {c k : ℕ} 
       run = λ tv ns ls.
           let z : As turned (separating closing (ends l, i) (row tk tv)) c (nodes ns ls k)
           (Last (active (ends l)) i p j) ns ls =
-          answers (reads _ (optioned g tv) then picked _ _ false e then
-          reads _ (came-read (holding-consumed .plain) (d .run tv ns ls) w)) in
+          answers (reads _ (skipped g e tv) then reads _ (came-read (holding-consumed .plain) (d .run tv ns ls) w)) in
           rw (active-ends l) at z;
     }
 
@@ -96,7 +95,7 @@ module _ (closing : ℕ) (l : ActiveList) (i : ℕ) {tk : List ℕ} {c k : ℕ} 
     unfolding separating separator consuming
     list-open w = record {
       run = λ tv ns ls.
-          hands-on _ (reads _ (optioned g tv) then picked _ _ false e) (held holding-consumed (d .run tv ns ls) w);
+          hands-on _ (reads _ (skipped g e tv)) (held holding-consumed (d .run tv ns ls) w);
     }
 
 -- an item

@@ -86,7 +86,7 @@ fn parse_separator(
             count,
         };
     }
-    match consume(kinds, after, count, closing) {
+    match consume(kinds, cursor, count, closing) {
         Consumed::Next {
             cursor: end,
             count: used,

@@ -68,6 +68,10 @@ module _ {tk : List ℕ} {key c : ℕ} {o : Optional} (g : Optionally tk key c o
   unfolding optional
   not-found e = g .cursor ∙ rw (sym is-found ∙ e) refl
 
+  -- it is not there, and nothing is taken
+  pub skipped : o .found ≡ false → (tv : List ℕ) {s : Nodes} → Onto (optional (row tk tv) key) c s (pure false) c s
+  skipped e tv {s} = rw (e, not-found e) at (optioned tv {s = s})
+
   pub found-next : o .found ≡ true → (o .cursor .0 ≡ c + 1) × (kindIn tk c ≡ key)
   unfolding optional
   found-next e = let d = sym is-found ∙ e in (g .cursor ∙ rw d refl, eqb-true _ _ d)

@@ -1,5 +1,3 @@
-use native.Mathlib.Omega.{arith}
-use Rattle.tokens.proofs.Laws.{not-found}
 use Rattle.lists.proofs.Laws.{comma-read, list-closed, list-open}
 use borrow.Author.Needs.{needs}
 use Rattle.lists.proofs.parse_separator.Statement.{statement}
@@ -7,9 +5,6 @@ use Rattle.lists.proofs.parse_separator.Tie as tie
 
 returns : tie.Need-returns
 returns c = search (needs, comma-read)
-
-consume-requires : tie.Need-consume-requires
-consume-requires c κs = omega (arith, not-found (c .before .before .consume-optional .ensures) (c .if1 .left))
 
 returns-2 : tie.Need-returns-2
 returns-2 c = search (needs, list-closed)
@@ -23,7 +18,7 @@ parse-separator-spec =
     (tie.spec
     (λ c κs. search needs)
     returns
-    consume-requires
+    (λ c κs. search needs)
     (λ c. search needs)
     (λ c. search needs)
     returns-2

@@ -5,7 +5,7 @@ use Rattle.lists.proofs.finish_shorthand.Reads as finish-shorthand-reads
 use Rattle.tokens.proofs.consume.Reads as consume-reads
 use Rattle.tokens.proofs.consume_optional.Reads as consume-optional-reads
 use Rattle.expressions.proofs.Bounds.{past-expression, expression-slots, expression-kept, past-name, name-kept}
-use Rattle.expressions.proofs.Bounds.{past-colon, colon-slots, colon-sized}
+use Rattle.expressions.proofs.Bounds.{field-slots, colon-sized}
 use Rattle.expressions.proofs.Laws.{field-short, field-stopped, field-read, field-unnamed}
 use Rattle.expressions.proofs.parse_expression.Reads as expression
 use Rattle.expressions.proofs.field.Reads as field
@@ -31,7 +31,7 @@ consume-optional-requires t c κs = search (needs, past-name)
 
 finish-shorthand-requires : (t : ℕ) → field-lts.Need-finish-shorthand-requires (calls t) (field-at t) field.Post
 finish-shorthand-requires t c κs =
-    (search (needs, past-colon), search (needs, colon-slots), search (needs, name-kept), search (needs, name-kept))
+    (search (needs, past-name), search (needs, field-slots), search (needs, name-kept), search (needs, name-kept))
 
 returns : (t : ℕ) → field-lts.Need-returns (calls t) (field-at t) field.Post
 returns t c = search (needs, field-short)

@@ -2,7 +2,7 @@ use Prim.Native.Nat.{ℕ}
 use borrow.Author.Needs.{needs}
 use Rattle.lists.proofs.finish_item.Reads as finish-item-reads
 use Rattle.tokens.proofs.consume_optional.Reads as consume-optional-reads
-use Rattle.expressions.proofs.Bounds.{past-expression, expression-slots, expression-kept, item-sized}
+use Rattle.expressions.proofs.Bounds.{past-expression, expression-slots, expression-kept}
 use Rattle.expressions.proofs.Laws.{item-none, item-field, item-stopped, item-read}
 use Rattle.expressions.proofs.parse_expression.Reads as expression
 use Rattle.expressions.proofs.field.Reads as field
@@ -26,13 +26,13 @@ returns : (t : ℕ) → item-lts.Need-returns (calls t) (item-at t) item.Post
 returns t c = search (needs, item-none)
 
 field-requires : (t : ℕ) → item-lts.Need-field-requires (calls t) (item-at t) item.Post
-field-requires t c κs = (search needs, (search (needs, item-sized), search needs, search needs))
+field-requires t c κs = search needs
 
 returns-2 : (t : ℕ) → item-lts.Need-returns-2 (calls t) (item-at t) item.Post
 returns-2 t c = search (needs, item-field)
 
 parse-expression-requires : (t : ℕ) → item-lts.Need-parse-expression-requires (calls t) (item-at t) item.Post
-parse-expression-requires t c κs = (search needs, search (needs, item-sized))
+parse-expression-requires t c κs = search needs
 
 returns-3 : (t : ℕ) → item-lts.Need-returns-3 (calls t) (item-at t) item.Post
 returns-3 t c = search (needs, item-stopped)
@@ -41,14 +41,11 @@ finish-item-requires : (t : ℕ) → item-lts.Need-finish-item-requires (calls t
 finish-item-requires t c κs =
     let c₁ = c .before .before .before in
     let c₂ = c₁ .before .before .before .before .before .before in
-    let c₃ = c₂ .before .before .before .before in
-    let c₄ = c₃ .before .before in
-    let c₅ = c₄ .before .before .before .before .before in
-    let p = c₅ .pre .1 in
-    let z = item-sized _ (c₄ .consume-optional .ensures) (c₃ .if1 .left) (p .0) in
+    let c₃ = c₂ .before .before .before .before .before .before .before .before .before .before .before in
+    let (z, f, f') = c₃ .pre .1 in
     let g = c₂ .parse-expression .ensures in
     let q = c₁ .item .given .1 in
-    (past-expression _ g q z, expression-slots _ g q z, expression-kept _ g q z (p .1), expression-kept _ g q z (p .2))
+    (past-expression _ g q z, expression-slots _ g q z, expression-kept _ g q z f, expression-kept _ g q z f')
 
 returns-4 : (t : ℕ) → item-lts.Need-returns-4 (calls t) (item-at t) item.Post
 returns-4 t c = search (needs, item-read)
