@@ -75,12 +75,12 @@ module _ {tk tv ns ls : List ℕ} {c k : ℕ} {o : Consumed} (g : Quiet consumed
 -- after the first tokens of a primary
 module _ (tk : List ℕ) (piped : Bool) (c k : ℕ) {o : Opening} (g : Starts piped tk c k o) {tv ks ls : List ℕ}
     (z : Sized tk tv ks ls c k) where
-  pub list-sized : {owner : Owner} {p : TokenId} {j : ℕ} → o ≡ Items owner p j → Sized tk tv ks ls (p .0) j
+  pub list-sized : {owner : Owner} {p : TokenId} {j : ℕ} → o ≡ Items p j owner → Sized tk tv ks ls (p .0) j
   unfolding Starts Opens
   list-sized q = (rw q at g) .sized tv ks ls z
 
   pub reference-sized :
-      {depth : ℕ} {name : TokenId} {isPointer : Bool} {p : TokenId} {j : ℕ} → o ≡ Reference depth name isPointer p j →
+      {depth : ℕ} {name : TokenId} {isPointer : Bool} {p : TokenId} {j : ℕ} → o ≡ Reference p j isPointer depth name →
       Sized tk tv ks ls (p .0) j
   unfolding Starts Opens
   reference-sized q = (rw q at g) .sized tv ks ls z

@@ -173,14 +173,14 @@ module _ (tk tv : List ℕ) (u : ℕ) (piped : Bool) (c k : ℕ) {ks ls : List �
 
   module _ {o : Opening} (g : Starts piped tk c k o) where
     pub list-opened :
-        {owner : Owner} {p : TokenId} {j : ℕ} → o ≡ Items owner p j → {r : Parsed} {ks' ls' : List ℕ} →
+        {owner : Owner} {p : TokenId} {j : ℕ} → o ≡ Items p j owner → {r : Parsed} {ks' ls' : List ℕ} →
         Gives (within (listed (ownerOf owner)) u (row tk tv)) (p .0) (nodes ks ls j) r ks' ls' →
         Gives (within (primaryOr piped) u (row tk tv)) c (nodes ks ls k) r ks' ls'
     unfolding Starts Opens
     list-opened q d = onward (rw q at g) d
 
     pub reference-opened :
-        {depth : ℕ} {name : TokenId} {isPointer : Bool} {p : TokenId} {j : ℕ} → o ≡ Reference depth name isPointer p j →
+        {depth : ℕ} {name : TokenId} {isPointer : Bool} {p : TokenId} {j : ℕ} → o ≡ Reference p j isPointer depth name →
         {r : Parsed} {ks' ls' : List ℕ} →
         Gives (within (referred c depth (name .0) isPointer) u (row tk tv)) (p .0) (nodes ks ls j) r ks' ls' →
         Gives (within (primaryOr piped) u (row tk tv)) c (nodes ks ls k) r ks' ls'

@@ -364,7 +364,7 @@ fn primary(
     ensures { λ r. ⌜ Gives (within (primaryOr piped) unused (row (now (kinds .entry)) (now (types .entry)))) (cursor .0) (nodes (now («node_kinds» .entry)) (now («node_loads» .entry)) count) r (now («node_kinds» .exit)) (now («node_loads» .exit)) ⌝ }
 {
     match parse_opening(kinds, cursor, count, piped) {
-        Opening::List(owner, inside, used) => {
+        Opening::List(inside, used, owner) => {
             rest_of_list(
                 kinds,
                 types,
@@ -376,7 +376,7 @@ fn primary(
                 owner,
             )
         }
-        Opening::Reference(depth, name, pointer, after, used) => {
+        Opening::Reference(after, used, pointer, depth, name) => {
             reference(
                 kinds,
                 types,

@@ -48,7 +48,7 @@ past-address tk tv start ns ls {c = c} g e z =
 -- after a name, by the next token
 module _ (tk : List ℕ) (name : TokenId) (c t k : ℕ) (peeked : t ≡ kindIn tk c) where
   pub call-opens :
-      t ≡ BaseToken.ParenLeft → Opens (naming (name .0)) tk (name .0) c k (Items (Call name 0) (token (c + 1)) k)
+      t ≡ BaseToken.ParenLeft → Opens (naming (name .0)) tk (name .0) c k (Items (token (c + 1)) k (Call name 0))
   unfolding Opens naming listed named
   call-opens e = record {
     same = λ tv expr ks ls. reads _ (there tk c t peeked tv _ e) .same;
@@ -56,7 +56,7 @@ module _ (tk : List ℕ) (name : TokenId) (c t k : ℕ) (peeked : t ≡ kindIn t
   }
 
   pub fields-open :
-      t ≡ BaseToken.BraceLeft → Opens (naming (name .0)) tk (name .0) c k (Items (Structural name) (token (c + 1)) k)
+      t ≡ BaseToken.BraceLeft → Opens (naming (name .0)) tk (name .0) c k (Items (token (c + 1)) k (Structural name))
   unfolding Opens naming listed named
   fields-open e = record {
     same = λ tv expr ks ls.
@@ -83,7 +83,7 @@ module _ (tk : List ℕ) (name : TokenId) (c t k : ℕ) (peeked : t ≡ kindIn t
 
   pub steps-open :
       (t ≡ BaseToken.BracketLeft) ⊎ (t ≡ BaseToken.Dot) →
-      Opens (naming (name .0)) tk (name .0) c k (Reference 0 name false (token c) k)
+      Opens (naming (name .0)) tk (name .0) c k (Reference (token c) k false 0 name)
   unfolding Opens naming referred
   steps-open (inl e) = record {
     same = λ tv expr ks ls. steps-follow (apart t _ _ refl e) (apart t _ _ refl e) tv expr .same;
@@ -111,7 +111,7 @@ module _ (tk : List ℕ) (name : TokenId) (c t k : ℕ) (peeked : t ≡ kindIn t
 module _ {tk : List ℕ} (name : TokenId) {c k : ℕ} {o : Consumed}
     (g : Quiet consumed (consuming BaseToken.ParenLeft) tk c k o) where
   pub builtin-opens :
-      {p : TokenId} {j : ℕ} → o ≡ Next p j → Opens (calling (name .0)) tk (name .0) c k (Items (Call name 1) p j)
+      {p : TokenId} {j : ℕ} → o ≡ Next p j → Opens (calling (name .0)) tk (name .0) c k (Items p j (Call name 1))
   unfolding Opens calling listed builtin consuming
   builtin-opens e = record {
     same = λ tv expr ks ls. reads _ (came-read (holding-consumed .plain) (g .run tv ks ls) e) .same;
@@ -126,7 +126,7 @@ module _ {tk : List ℕ} (name : TokenId) {c k : ℕ} {o : Consumed}
 module _ {tk : List ℕ} (start : ℕ) {c k : ℕ} {a : Address} (g : Quiet addressed (addressing start) tk c k a) where
   pub pointer-opens :
       {depth : ℕ} {name p : TokenId} {j : ℕ} → a ≡ At depth name p j →
-      Opens (pointing start) tk start c k (Reference depth name true p j)
+      Opens (pointing start) tk start c k (Reference p j true depth name)
   unfolding Opens pointing referred pointer addressing
   pointer-opens e = record {
     same = λ tv expr ks ls. reads _ (came-read (holding-addressed .plain) (g .run tv ks ls) e) .same;
@@ -140,7 +140,7 @@ module _ {tk : List ℕ} (start : ℕ) {c k : ℕ} {a : Address} (g : Quiet addr
 module _ {tk : List ℕ} {c k : ℕ} {a : Address} (g : Quiet addressed (addressing c) tk c k a) where
   pub pipe-opens :
       {depth : ℕ} {name p : TokenId} {j : ℕ} → a ≡ At depth name p j →
-      Opens (primaryOr true) tk c c k (Reference 0 name false p j)
+      Opens (primaryOr true) tk c c k (Reference p j false 0 name)
   unfolding Opens primaryOr referred reference addressing
   pipe-opens e = record {
     same = λ tv expr ks ls. (at-here _ then reads _ (came-read (holding-addressed .plain) (g .run tv ks ls) e)) .same;
@@ -191,8 +191,8 @@ module _ (tk : List ℕ) (c t k : ℕ) (peeked : t ≡ kindIn tk c) where
       {key : ℕ} {m : Holds} → Begins c key m → t ≡ key → (r : Opening) → Opens m tk c (c + 1) k r →
       Starts false tk c k r
   unfolding Starts Opens primaryOr
-  opened b e (Items owner p j) h = onward b e h
-  opened b e (Reference depth name isPointer p j) h = onward b e h
+  opened b e (Items p j owner) h = onward b e h
+  opened b e (Reference p j isPointer depth name) h = onward b e h
   opened b e (Name p j) h = onward b e h
   opened b e (Group p j) h = onward b e h
   opened b e (Literal u) h = absurd h
@@ -204,7 +204,7 @@ module _ (tk : List ℕ) (c t k : ℕ) (peeked : t ≡ kindIn tk c) where
         Starts piped tk c k r
     primary-opens b e r h = rw not-piped (opened b e r h)
 
-    pub elements-open : t ≡ BaseToken.BracketLeft → Starts piped tk c k (Items Elements (token (c + 1)) k)
+    pub elements-open : t ≡ BaseToken.BracketLeft → Starts piped tk c k (Items (token (c + 1)) k Elements)
     unfolding Opens
     elements-open e =
         primary-opens with-bracket e _ (record { same = λ tv expr ks ls. refl; sized = λ tv ks ls z. z })
@@ -233,8 +233,8 @@ module _ (tk : List ℕ) (c t k : ℕ) (peeked : t ≡ kindIn tk c) where
 
 piped-opens : (tk : List ℕ) (c k : ℕ) (r : Opening) → Opens (primaryOr true) tk c c k r → Starts true tk c k r
 unfolding Starts Opens
-piped-opens tk c k (Items owner p j) h = h
-piped-opens tk c k (Reference depth name isPointer p j) h = h
+piped-opens tk c k (Items p j owner) h = h
+piped-opens tk c k (Reference p j isPointer depth name) h = h
 piped-opens tk c k (Name p j) h = h
 piped-opens tk c k (Group p j) h = h
 piped-opens tk c k (Literal u) h = absurd h

@@ -67,8 +67,8 @@ pub record Plain (kinds : List ℕ) (c t : ℕ) : Type 0 where
 
 -- How the rule m, which begins at start, goes on after its first tokens, or is refused.
 unfoldable pub Opens : Holds → List ℕ → ℕ → ℕ → ℕ → Opening → Type 0
-Opens m kinds start c count (Items owner p j) = Onward m kinds c count (listed (ownerOf owner)) (p .0) j
-Opens m kinds start c count (Reference depth name isPointer p j) =
+Opens m kinds start c count (Items p j owner) = Onward m kinds c count (listed (ownerOf owner)) (p .0) j
+Opens m kinds start c count (Reference p j isPointer depth name) =
     Onward m kinds c count (referred start depth (name .0) isPointer) (p .0) j
 Opens m kinds start c count (Name p j) = Onward m kinds c count (alone start) (p .0) j
 Opens m kinds start c count (Group p j) = Onward m kinds c count grouped (p .0) j
@@ -80,9 +80,9 @@ Opens m kinds start c count (Refused r) =
 -- The same of a primary, or of a reference after a pipe: but a literal is read from the cursor on.
 unfoldable pub Starts : Bool → List ℕ → ℕ → ℕ → Opening → Type 0
 Starts piped kinds c count (Literal t) = Plain kinds c t × (piped ≡ false)
-Starts piped kinds c count (Items owner p j) = Opens (primaryOr piped) kinds c c count (Items owner p j)
-Starts piped kinds c count (Reference depth name isPointer p j) =
-    Opens (primaryOr piped) kinds c c count (Reference depth name isPointer p j)
+Starts piped kinds c count (Items p j owner) = Opens (primaryOr piped) kinds c c count (Items p j owner)
+Starts piped kinds c count (Reference p j isPointer depth name) =
+    Opens (primaryOr piped) kinds c c count (Reference p j isPointer depth name)
 Starts piped kinds c count (Name p j) = Opens (primaryOr piped) kinds c c count (Name p j)
 Starts piped kinds c count (Group p j) = Opens (primaryOr piped) kinds c c count (Group p j)
 Starts piped kinds c count (Refused r) = Opens (primaryOr piped) kinds c c count (Refused r)

@@ -15,13 +15,13 @@ use tokens::Consumed;
 use tokens::consume;
 use tokens::peek;
 
-// What a primary is, by its first tokens, with the cursor after them and the node count.
+// What a primary is, by its first tokens: the cursor after them and the node count, then what else is known of it.
 pub enum Opening {
     // A list, whose opening token is taken.
-    List(Owner, TokenId, u32),
-    // A name, which is taken, with the number of ampersands before it and perhaps steps after it. Where an ampersand
-    // opened the primary it is a pointer, which `..` may follow.
-    Reference(u32, TokenId, bool, TokenId, u32),
+    List(TokenId, u32, Owner),
+    // A name, which is taken, and perhaps steps after it: whether an ampersand opened the primary, which makes it a
+    // pointer that `..` may follow; the number of ampersands that is stored; and the name's place.
+    Reference(TokenId, u32, bool, u32, TokenId),
     // A name, which is taken, with no ampersand before it and no step after it.
     Name(TokenId, u32),
     // An opening parenthesis, which is taken.
@@ -39,10 +39,10 @@ fn after_name(kinds: &[u8], cursor: TokenId, count: u32, name: TokenId) -> Openi
     let at = cursor.0;
     let next = TokenId(at + 1);
     match peek(kinds, cursor) {
-        BaseToken::ParenLeft => Opening::List(Owner::Call { name, builtin: 0 }, next, count),
-        BaseToken::BraceLeft => Opening::List(Owner::Structural { name }, next, count),
+        BaseToken::ParenLeft => Opening::List(next, count, Owner::Call { name, builtin: 0 }),
+        BaseToken::BraceLeft => Opening::List(next, count, Owner::Structural { name }),
         BaseToken::BracketLeft | BaseToken::Dot => {
-            Opening::Reference(0, name, false, cursor, count)
+            Opening::Reference(cursor, count, false, 0, name)
         }
         _ => Opening::Name(cursor, count),
     }
@@ -57,7 +57,7 @@ fn after_builtin(kinds: &[u8], cursor: TokenId, count: u32, name: TokenId) -> Op
         Consumed::Next {
             cursor: after,
             count: used,
-        } => { Opening::List(Owner::Call { name, builtin: 1 }, after, used) }
+        } => { Opening::List(after, used, Owner::Call { name, builtin: 1 }) }
         Consumed::Wrong { refusal } => Opening::Refused(refusal),
     }
 }
@@ -73,7 +73,7 @@ fn after_ampersand(kinds: &[u8], cursor: TokenId, count: u32, start: TokenId) ->
             name,
             cursor: after,
             count: used,
-        } => { Opening::Reference(depth, name, true, after, used) }
+        } => { Opening::Reference(after, used, true, depth, name) }
         Address::Refused { refusal } => Opening::Refused(refusal),
     }
 }
@@ -89,7 +89,7 @@ fn after_pipe(kinds: &[u8], cursor: TokenId, count: u32) -> Opening
             name,
             cursor: after,
             count: used,
-        } => { Opening::Reference(0, name, false, after, used) }
+        } => { Opening::Reference(after, used, false, 0, name) }
         Address::Refused { refusal } => Opening::Refused(refusal),
     }
 }
@@ -109,7 +109,7 @@ pub fn parse_opening(kinds: &[u8], cursor: TokenId, count: u32, piped: bool) -> 
         BaseToken::Identifier => after_name(kinds, next, count, cursor),
         BaseToken::Builtin => after_builtin(kinds, next, count, cursor),
         BaseToken::Ampersand => after_ampersand(kinds, next, count, cursor),
-        BaseToken::BracketLeft => Opening::List(Owner::Elements, next, count),
+        BaseToken::BracketLeft => Opening::List(next, count, Owner::Elements),
         BaseToken::ParenLeft => Opening::Group(next, count),
         _ => Opening::Literal(token),
     }
