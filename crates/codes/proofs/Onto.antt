@@ -112,13 +112,15 @@ before : (k : ℕ) (known : Type 0) (js : List ℕ) → Rest k known js → know
 before k known [] h = h
 before k known (j ∷ js) h = before k (known × (k ≡ j → ⊥)) js h .0
 
-no-entry : {A : Type 0} (k : ℕ) (known : Type 0) (es : List (ℕ × A)) (d : A) → Rest k known (keys es) → entry k es d ≡ d
+-- none of a table's keys
+pub no-entry :
+    {A : Type 0} (k : ℕ) (known : Type 0) (es : List (ℕ × A)) (d : A) → Rest k known (keys es) → entry k es d ≡ d
 no-entry k known [] d h = refl
 no-entry k known (e ∷ es) d h =
     rw (ne-eqb k (e .0) (before k (known × (k ≡ e .0 → ⊥)) (keys es) h .1))
     (no-entry k (known × (k ≡ e .0 → ⊥)) es d h)
 
--- none of a table's keys: the rule beside the table
+-- the rule beside the table
 pub beside :
     {A : Type 0} {c : ℕ} {s : Nodes} (k : ℕ) (es : List (ℕ × Rule Nodes A)) (d : Rule Nodes A) →
     Rest k (Unit {0}) (keys es) → Onto (choose k es d) c s d c s

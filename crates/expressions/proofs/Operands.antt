@@ -1,6 +1,6 @@
 -- Operands joined by operators, for sums and products: what their loops keep between two rounds, and a law for each
 -- return of a round.
-use mathlib.Core.Path.{_≡_, sym}
+use mathlib.Core.Path.{_≡_, sym, ap}
 use mathlib.Core.Bool.{Bool, true, false, true≢false}
 use mathlib.Core.List.{List}
 use Prim.Native.Nat.{ℕ, suc, _-_, _<_}
@@ -15,11 +15,10 @@ use Rattle.codes.proofs.Onto.{Onto, _then_, stays, reads, regroup, answers, sho
 use Rattle.codes.proofs.Onto.{plain-parsed}
 use Rattle.codes.proofs.Loops.{Going, sets-out, goes-round, round, round-again, round-last}
 use Rattle.operators.specs.declared.Pending.{Pending}
-use Rattle.operators.specs.declared.Pending.the-variants.{First}
 use Rattle.operators.specs.declared.Joint.{Joint}
 use Rattle.operators.specs.declared.Joint.the-variants.{More, Last, Refused as Stopped}
-use Rattle.operators.specs.Answer.{pend, joint, factorJoined, termJoined}
-use Rattle.operators.proofs.Laws.{holding-joint, more-same}
+use Rattle.operators.specs.Answer.{pend, meaning, joint, factorJoined, termJoined}
+use Rattle.operators.proofs.Laws.{holding-joint}
 use Rattle.operators.proofs.Bounds.{factor, term, after-operator}
 use Rattle.expressions.specs.Answer.{sums, unaries, operand, factors}
 use Rattle.expressions.proofs.Bounds.{after-operand, after-factor}
@@ -43,27 +42,28 @@ module _ (tk tv : List ℕ) (m : Rules.Pending ℕ → Rule Nodes ℕ)
       round-stopped q = hands-on _ (h then round _ _ n stays then regroup _ _ _ _ _) (told g q)
 
       module _ {e : NodeId} {a : TokenId} {k : ℕ} (q : r₁ ≡ Node e a k) {z : Joint} {ks ls : List ℕ}
-          (d : Untyped joint (j p (e .0)) tk (a .0) (nodes ks₁ ls₁ k) z ks ls) where
+          (d : Untyped joint (j p (e .0)) tk (a .0) (nodes ks₁ ls₁ k) (meaning z) ks ls) where
         round-refused : {r : Parsed} → z ≡ Stopped r → Gives whole c₀ s₀ r ks ls
         round-refused w =
-            hands-on _ (h then round _ _ n (reads _ (came-read plain-parsed g q))) (held holding-joint (d .run tv) w)
+            hands-on _ (h then round _ _ n (reads _ (came-read plain-parsed g q)))
+            (held holding-joint (d .run tv) (ap meaning w))
 
         round-ends : {root : NodeId} {b : TokenId} {i : ℕ} → z ≡ Last root b i → Gives whole c₀ s₀ (Node root b i) ks ls
         round-ends {root} w =
             answers (h then round-last _ _ n
             (reads _ (came-read plain-parsed g q) then
-            came-read (holding-joint .plain) (d .run tv) {a = done (root .0)} w))
+            came-read (holding-joint .plain) (d .run tv) {a = done (root .0)} (ap meaning w)))
 
   -- another round
   next-round :
       (p : Rules.Pending ℕ) {c : ℕ} {s : Nodes} {r₁ : Parsed} {ks₁ ls₁ : List ℕ} → Gives (m p) c s r₁ ks₁ ls₁ →
       {e : NodeId} {a : TokenId} {k : ℕ} → r₁ ≡ Node e a k → {z : Joint} {ks ls : List ℕ} →
-      Untyped joint (j p (e .0)) tk (a .0) (nodes ks₁ ls₁ k) z ks ls → {q : Pending} {b : TokenId} {i : ℕ} →
+      Untyped joint (j p (e .0)) tk (a .0) (nodes ks₁ ls₁ k) (meaning z) ks ls → {q : Pending} {b : TokenId} {i : ℕ} →
       z ≡ More q b i → (n : ℕ) → Onto (joins (suc n) p) c s (joins n (pend q)) (b .0) (nodes ks ls i)
   next-round p g e d {q} w n =
       round-again _ _ n
       (reads _ (came-read plain-parsed g e) then
-      came-read (holding-joint .plain) (d .run tv) {a = again (pend q)} (more-same w))
+      came-read (holding-joint .plain) (d .run tv) {a = again (pend q)} (ap meaning w))
 
 -- an operand of a sum, by what is pending
 abbrev termOperand : List ℕ → List ℕ → ℕ → Rules.Pending ℕ → Rule Nodes ℕ
@@ -75,9 +75,9 @@ Terms tk tv u c₀ s₀ p c s =
     Going (sums u (row tk tv)) c₀ s₀ (joins tk tv (termOperand tk tv u) termJoined) (length tk)
     (pend p) c s
 
-pub first-term : (tk tv : List ℕ) (u c : ℕ) (s : Nodes) → Terms tk tv u c s First c s
+pub first-term : (tk tv : List ℕ) (u c : ℕ) (s : Nodes) (p : Pending) → pend p ≡ Rules.first → Terms tk tv u c s p c s
 unfolding sums sum loop Rules.term operand unaries termJoined
-first-term tk tv u c s = sets-out _ stays
+first-term tk tv u c s p e = rw e (sets-out _ stays)
 
 module _ (tk tv : List ℕ) (u c₀ : ℕ) {s₀ : Nodes} (p : Pending) (c k : ℕ) {ks ls : List ℕ}
     (h : Terms tk tv u c₀ s₀ p c (nodes ks ls k)) {bare : Bool} (b : bare ≡ takesUnary (pend p)) {r₁ : Parsed}
@@ -87,7 +87,7 @@ module _ (tk tv : List ℕ) (u c₀ : ℕ) {s₀ : Nodes} (p : Pending) (c k : �
   sum-stopped q = round-stopped tk tv (termOperand tk tv u) termJoined (pend p) (h .rounds) (h .onto) (rw b at g) q
 
   module _ {e : NodeId} {a : TokenId} {j : ℕ} (q : r₁ ≡ Node e a j) {z : Joint} {ks₂ ls₂ : List ℕ}
-      (d : Untyped joint (termJoined (pend p) (e .0)) tk (a .0) (nodes ks₁ ls₁ j) z ks₂ ls₂) where
+      (d : Untyped joint (termJoined (pend p) (e .0)) tk (a .0) (nodes ks₁ ls₁ j) (meaning z) ks₂ ls₂) where
     pub sum-refused : {r : Parsed} → z ≡ Stopped r → Gives (sums u (row tk tv)) c₀ s₀ r ks₂ ls₂
     sum-refused w =
         round-refused tk tv (termOperand tk tv u) termJoined (pend p) (h .rounds) (h .onto) (rw b at g) q d w
@@ -123,9 +123,10 @@ Factors tk tv u bare c₀ s₀ p c s =
     (length tk) (pend p) c s
 
 pub first-factor :
-    (tk tv : List ℕ) (u : ℕ) (bare : Bool) (c : ℕ) (s : Nodes) → Factors tk tv u bare c s First c s
+    (tk tv : List ℕ) (u : ℕ) (bare : Bool) (c : ℕ) (s : Nodes) (p : Pending) → pend p ≡ Rules.first →
+    Factors tk tv u bare c s p c s
 unfolding operand product loop Rules.factor factors factorJoined
-first-factor tk tv u bare c s = sets-out _ stays
+first-factor tk tv u bare c s p e = rw e (sets-out _ stays)
 
 pub product-bare :
     (tk tv : List ℕ) (u : ℕ) (bare : Bool) (c₀ : ℕ) {s₀ : Nodes} (p : Pending) (c : ℕ) {s : Nodes} →
@@ -148,44 +149,44 @@ product-stopped tk tv u false c₀ p c h g q =
 
 module _ (tk tv : List ℕ) (u : ℕ) (bare : Bool) (c₀ : ℕ) {s₀ : Nodes} (p : Pending) (c k : ℕ) {ks ls : List ℕ}
     (h : Factors tk tv u bare c₀ s₀ p c (nodes ks ls k)) {r₁ : Parsed} {ks₁ ls₁ : List ℕ}
-    (g : Gives (factors bare u (row tk tv)) c (nodes ks ls k) r₁ ks₁ ls₁) (b : bare ≡ false)
-    {e : NodeId} {a : TokenId} {j : ℕ} (q : r₁ ≡ Node e a j) {z : Joint} {ks₂ ls₂ : List ℕ}
-    (d : Untyped joint (factorJoined (pend p) (e .0)) tk (a .0) (nodes ks₁ ls₁ j) z ks₂ ls₂) where
+    (g : Gives (factors bare u (row tk tv)) c (nodes ks ls k) r₁ ks₁ ls₁) (b : bare ≡ false) where
   going : Factors tk tv u false c₀ s₀ p c (nodes ks ls k)
   going = rw b at h
 
   given : Gives (factors false u (row tk tv)) c (nodes ks ls k) r₁ ks₁ ls₁
   given = rw b at g
 
-  pub product-refused : {r : Parsed} → z ≡ Stopped r → Gives (operand bare u (row tk tv)) c₀ s₀ r ks₂ ls₂
-  product-refused w =
-      rw b
-      (round-refused tk tv (λ _. factors false u (row tk tv)) factorJoined (pend p) (going .rounds) (going .onto) given
-      q d w)
-
-  pub product-read :
-      {root : NodeId} {f : TokenId} {i : ℕ} → z ≡ Last root f i →
-      Gives (operand bare u (row tk tv)) c₀ s₀ (Node root f i) ks₂ ls₂
-  product-read w =
-      rw b
-      (round-ends tk tv (λ _. factors false u (row tk tv)) factorJoined (pend p) (going .rounds) (going .onto) given q d
-      w)
-
-  module _ {p' : Pending} {f : TokenId} {i : ℕ} (w : z ≡ More p' f i) (y : Sized tk tv ks ls c k) where
-    product-moves : Sized tk tv ks₂ ls₂ (f .0) i × (c < f .0)
-    product-moves =
-        let (v, x) = after-factor u bare g q y in
-        let (v', x') = after-operator (factor (pend p) (e .0)) d w v in
-        (v', omega arith)
-
-    pub product-sized : Sized tk tv ks₂ ls₂ (f .0) i
-    product-sized = product-moves .0
-
-    pub product-less : length tk - f .0 < length tk - c
-    product-less = let (v, x) = product-moves in omega (arith, v .at)
-
-    pub next-factor : Factors tk tv u bare c₀ s₀ p' (f .0) (nodes ks₂ ls₂ i)
-    next-factor =
+  module _ {e : NodeId} {a : TokenId} {j : ℕ} (q : r₁ ≡ Node e a j) {z : Joint} {ks₂ ls₂ : List ℕ}
+      (d : Untyped joint (factorJoined (pend p) (e .0)) tk (a .0) (nodes ks₁ ls₁ j) (meaning z) ks₂ ls₂) where
+    pub product-refused : {r : Parsed} → z ≡ Stopped r → Gives (operand bare u (row tk tv)) c₀ s₀ r ks₂ ls₂
+    product-refused w =
         rw b
-        (goes-round _ going (next-round tk tv (λ _. factors false u (row tk tv)) factorJoined (pend p) given q d w)
-        (product-moves .1) (product-moves .0 .at))
+        (round-refused tk tv (λ _. factors false u (row tk tv)) factorJoined (pend p) (going .rounds) (going .onto)
+        given q d w)
+
+    pub product-read :
+        {root : NodeId} {f : TokenId} {i : ℕ} → z ≡ Last root f i →
+        Gives (operand bare u (row tk tv)) c₀ s₀ (Node root f i) ks₂ ls₂
+    product-read w =
+        rw b
+        (round-ends tk tv (λ _. factors false u (row tk tv)) factorJoined (pend p) (going .rounds) (going .onto)
+        given q d w)
+
+    module _ {p' : Pending} {f : TokenId} {i : ℕ} (w : z ≡ More p' f i) (y : Sized tk tv ks ls c k) where
+      product-moves : Sized tk tv ks₂ ls₂ (f .0) i × (c < f .0)
+      product-moves =
+          let (v, x) = after-factor u bare g q y in
+          let (v', x') = after-operator (factor (pend p) (e .0)) d w v in
+          (v', omega arith)
+
+      pub product-sized : Sized tk tv ks₂ ls₂ (f .0) i
+      product-sized = product-moves .0
+
+      pub product-less : length tk - f .0 < length tk - c
+      product-less = let (v, x) = product-moves in omega (arith, v .at)
+
+      pub next-factor : Factors tk tv u bare c₀ s₀ p' (f .0) (nodes ks₂ ls₂ i)
+      next-factor =
+          rw b
+          (goes-round _ going (next-round tk tv (λ _. factors false u (row tk tv)) factorJoined (pend p) given q d w)
+          (product-moves .1) (product-moves .0 .at))

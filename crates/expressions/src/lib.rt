@@ -38,9 +38,9 @@ use nodes::start_list;
 use openings::Opening;
 use openings::parse_opening;
 use operators::Joint;
-use operators::Pending;
 use operators::join_factor;
 use operators::join_term;
+use operators::no_pending;
 use operators::push_binary;
 use operators::push_prefix;
 use operators::takes_unary;
@@ -155,7 +155,7 @@ fn addition(
     requires { ⌜ Sized (now kinds) (now types) (now «node_kinds») (now «node_loads») (cursor .0) count ⌝ }
     ensures { λ r. ⌜ Gives (sums unused (row (now (kinds .entry)) (now (types .entry)))) (cursor .0) (nodes (now («node_kinds» .entry)) (now («node_loads» .entry)) count) r (now («node_kinds» .exit)) (now («node_loads» .exit)) ⌝ }
 {
-    let mut pending = Pending::First;
+    let mut pending = no_pending();
     let mut place = cursor.0;
     let mut used = count;
     loop {
@@ -212,7 +212,7 @@ fn multiplication(
     requires { ⌜ Sized (now kinds) (now types) (now «node_kinds») (now «node_loads») (cursor .0) count ⌝ }
     ensures { λ r. ⌜ Gives (operand bare unused (row (now (kinds .entry)) (now (types .entry)))) (cursor .0) (nodes (now («node_kinds» .entry)) (now («node_loads» .entry)) count) r (now («node_kinds» .exit)) (now («node_loads» .exit)) ⌝ }
 {
-    let mut pending = Pending::First;
+    let mut pending = no_pending();
     let mut place = cursor.0;
     let mut used = count;
     loop {

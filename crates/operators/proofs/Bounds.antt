@@ -1,5 +1,5 @@
 -- Operators' nodes take no token, and are appended within the slots; after an operator the cursor has moved.
-use mathlib.Core.Path.{_≡_, refl, _∙_}
+use mathlib.Core.Path.{_≡_, refl, _∙_, ap}
 use mathlib.Core.List.{List}
 use Prim.Native.Nat.{ℕ, _+_, _≤_, _<_}
 use native.Mathlib.Omega.{arith}
@@ -13,8 +13,8 @@ use Rattle.nodes.specs.Answer.{Slots}
 use Rattle.operators.specs.declared.Pending.{Pending}
 use Rattle.operators.specs.declared.Joint.{Joint}
 use Rattle.operators.specs.declared.Joint.the-variants.{More}
-use Rattle.operators.specs.Answer.{pend, joint, factorJoined, termJoined}
-use Rattle.operators.proofs.Laws.{holding-joint, more-same}
+use Rattle.operators.specs.Answer.{pend, meaning, joint, factorJoined, termJoined}
+use Rattle.operators.proofs.Laws.{holding-joint}
 use Rattle.rules.specs.Codes.Limit as Limit
 use Rattle.rules.specs.Reading.{Row, Rule, Step, again}
 use Rattle.rules.specs.Columns.{Nodes, columns}
@@ -64,7 +64,7 @@ joint-moves (term p right) at c = term-end (below at) (omega arith) p right c
 -- after an operand and the operator that follows it
 pub after-operator :
     {f : Row → Rule Nodes (Step (Rules.Pending ℕ) ℕ)} → Joining f → {tk tv ns ls : List ℕ} {c k : ℕ} {z : Joint}
-    {ns' ls' : List ℕ} → Untyped joint f tk c (nodes ns ls k) z ns' ls' → {q : Pending} {p : TokenId} {j : ℕ} →
-    z ≡ More q p j → Sized tk tv ns ls c k → Sized tk tv ns' ls' (p .0) j × (c < p .0)
+    {ns' ls' : List ℕ} → Untyped joint f tk c (nodes ns ls k) (meaning z) ns' ls' → {q : Pending} {p : TokenId}
+    {j : ℕ} → z ≡ More q p j → Sized tk tv ns ls c k → Sized tk tv ns' ls' (p .0) j × (c < p .0)
 after-operator h {tk} {tv} {c = c} g {q} e z =
-    sized-after z (holding-joint .plain) (joint-moves h (row tk tv) c) (g .run tv) {a = again (pend q)} (more-same e)
+    sized-after z (holding-joint .plain) (joint-moves h (row tk tv) c) (g .run tv) {a = again (pend q)} (ap meaning e)

@@ -1,57 +1,97 @@
 -- The answers of the code as the rules give them.
-use Prim.Native.Nat.{ℕ}
-use Rattle.codes.specs.Answer.{Form, token, nodeId}
-use Rattle.operators.specs.declared.Bitwise.{Bitwise}
-use Rattle.operators.specs.declared.Bitwise.the-variants.{And, Or, Xor}
+use Prim.Native.Nat.{ℕ, _+_}
+use mathlib.Core.List.{List, [], _∷_}
+use lib.Dec.{eqb}
+use Rattle.codes.specs.declared.Parsed.{Parsed}
+use Rattle.codes.specs.declared.NodeId.{NodeId}
+use Rattle.codes.specs.declared.TokenId.{TokenId}
+use Rattle.codes.specs.Answer.{Form, token}
 use Rattle.operators.specs.declared.Pending.{Pending}
-use Rattle.operators.specs.declared.Pending.the-variants.{First, Joined, Bitwise as Bits, Shift}
 use Rattle.operators.specs.declared.Joint.{Joint}
 use Rattle.operators.specs.declared.Joint.the-variants.{More, Last, Refused}
+use Rattle.rules.specs.Codes.{pick, entry, _⇒_}
+use Rattle.rules.specs.Codes.BaseToken as BaseToken
+use Rattle.rules.specs.Codes.BinaryOp as BinaryOp
 use Rattle.rules.specs.Reading.{Rule, Row, Step, again, done}
 use Rattle.rules.specs.Columns.{Nodes, columns}
 use Rattle.rules.specs.Expressions as Rules
-use Rattle.rules.specs.Expressions.{nextFactor, nextTerm, nextBit, factorEnd, termEnd}
+use Rattle.rules.specs.Expressions.{factorEnd, termEnd}
 
-abbrev pub bitOf : Bitwise → Rules.Bitwise
-bitOf And = Rules.bitAnd
-bitOf Or = Rules.bitOr
-bitOf Xor = Rules.bitXor
+-- stands for an operator's code where there is none: the number after the last code
+abbrev pub noOperator : ℕ
+noOperator = 11
 
-abbrev pub toBit : Rules.Bitwise → Bitwise
-toBit Rules.bitAnd = And
-toBit Rules.bitOr = Or
-toBit Rules.bitXor = Xor
+-- What is pending in the rules, by the code of its operator: the rows for no operator and for those after which a unary
+-- is read. Any other operator is one of a product or of a sum.
+abbrev pub pendings : ℕ → ℕ → List (ℕ × Rules.Pending ℕ)
+pendings left at =
+    noOperator ⇒ Rules.first
+    ∷ BinaryOp.BitwiseAnd ⇒ Rules.bitwise left Rules.bitAnd at
+    ∷ BinaryOp.BitwiseOr ⇒ Rules.bitwise left Rules.bitOr at
+    ∷ BinaryOp.BitwiseXor ⇒ Rules.bitwise left Rules.bitXor at
+    ∷ BinaryOp.ShiftLeft ⇒ Rules.shift left BinaryOp.ShiftLeft at
+    ∷ BinaryOp.ShiftRight ⇒ Rules.shift left BinaryOp.ShiftRight at
+    ∷ []
 
--- a pending operator in the rules, and in the code
-abbrev pub pend : Pending → Rules.Pending ℕ
-pend First = Rules.first
-pend (Joined left op at) = Rules.joined (left .0) op (at .0)
-pend (Bits left bit at) = Rules.bitwise (left .0) (bitOf bit) (at .0)
-pend (Shift left op at) = Rules.shift (left .0) op (at .0)
+unfoldable pub pend : Pending → Rules.Pending ℕ
+pend p = entry (p .op) (pendings (p .left .0) (p .at .0)) (Rules.joined (p .left .0) (p .op) (p .at .0))
 
-abbrev pub toPending : Rules.Pending ℕ → Pending
-toPending Rules.first = First
-toPending (Rules.joined left op at) = Joined (nodeId left) op (token at)
-toPending (Rules.bitwise left bit at) = Bits (nodeId left) (toBit bit) (token at)
-toPending (Rules.shift left op at) = Shift (nodeId left) op (token at)
+-- What the rules answer after an operand: what is read, with the cursor and the node count then, or a refusal.
+pub data Meaning : Type 0 where
+  read : Step (Rules.Pending ℕ) ℕ → ℕ → ℕ → Meaning
+  refused : Parsed → Meaning
 
--- another operand is to be read, or the whole is read
-abbrev pub joined : Step (Rules.Pending ℕ) ℕ → ℕ → ℕ → Joint
-joined (again p) cursor count = More (toPending p) (token cursor) count
-joined (done root) cursor count = Last (nodeId root) (token cursor) count
+-- The code's answer as the rules have it: another operand is to be read, or the whole is read. The rules answer with an
+-- operator where another operand is to be read, and then `pend` leaves out no field: so they determine the answer.
+abbrev pub meaning : Joint → Meaning
+meaning (More p cursor count) = read (again (pend p)) (cursor .0) count
+meaning (Last root cursor count) = read (done (root .0)) (cursor .0) count
+meaning (Refused r) = refused r
 
-abbrev pub joint : Form (Step (Rules.Pending ℕ) ℕ) Joint
-joint = record { read = joined; refused = Refused }
+abbrev pub joint : Form (Step (Rules.Pending ℕ) ℕ) Meaning
+joint = record { read = read; refused = refused }
 
--- the operator after an operand, of any row
-unfoldable pub factorAfter : ℕ → Row → Rule Nodes (Step (Rules.Pending ℕ) ℕ)
-factorAfter e row = nextFactor columns row e
+-- the operators of a product by their tokens
+abbrev pub factors : List (ℕ × ℕ)
+factors =
+    BaseToken.Times ⇒ BinaryOp.Multiply
+    ∷ BaseToken.Divide ⇒ BinaryOp.Divide
+    ∷ BaseToken.Modulo ⇒ BinaryOp.Modulo
+    ∷ []
 
-unfoldable pub termAfter : ℕ → Row → Rule Nodes (Step (Rules.Pending ℕ) ℕ)
-termAfter e row = nextTerm columns row e
+-- the operators of a sum and after it
+abbrev pub terms : List (ℕ × ℕ)
+terms =
+    BaseToken.Ampersand ⇒ BinaryOp.BitwiseAnd
+    ∷ BaseToken.Pipe ⇒ BinaryOp.BitwiseOr
+    ∷ BaseToken.Caret ⇒ BinaryOp.BitwiseXor
+    ∷ BaseToken.ShiftLeft ⇒ BinaryOp.ShiftLeft
+    ∷ BaseToken.ShiftRight ⇒ BinaryOp.ShiftRight
+    ∷ BaseToken.Plus ⇒ BinaryOp.Add
+    ∷ BaseToken.Minus ⇒ BinaryOp.Subtract
+    ∷ []
 
-unfoldable pub bitAfter : Rules.Bitwise → ℕ → Row → Rule Nodes (Step (Rules.Pending ℕ) ℕ)
-bitAfter bit e row = nextBit columns row bit e
+-- the operators that may follow an operand, by the operator before it
+abbrev pub followers : ℕ → List (ℕ × ℕ)
+followers before = entry before
+    (BinaryOp.BitwiseAnd ⇒ (BaseToken.Ampersand ⇒ BinaryOp.BitwiseAnd ∷ [])
+    ∷ BinaryOp.BitwiseOr ⇒ (BaseToken.Pipe ⇒ BinaryOp.BitwiseOr ∷ [])
+    ∷ BinaryOp.BitwiseXor ⇒ (BaseToken.Caret ⇒ BinaryOp.BitwiseXor ∷ [])
+    ∷ BinaryOp.ShiftLeft ⇒ []
+    ∷ BinaryOp.ShiftRight ⇒ []
+    ∷ [])
+    terms
+
+-- the operator among these that a token is, or none
+abbrev pub among : List (ℕ × ℕ) → ℕ → ℕ
+among operators kind = entry kind operators noOperator
+
+-- the answer after an operand, by the operator whose token stands at the cursor
+abbrev pub afterOperand : TokenId → ℕ → NodeId → ℕ → Joint
+afterOperand cursor count left op =
+    pick (eqb op noOperator)
+    (Last left cursor count)
+    (More (record { op = op; left = left; at = cursor }) (token (cursor .0 + 1)) count)
 
 -- an operand joined, and the operator after it, of any row
 unfoldable pub factorJoined : Rules.Pending ℕ → ℕ → Row → Rule Nodes (Step (Rules.Pending ℕ) ℕ)

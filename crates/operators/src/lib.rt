@@ -4,10 +4,10 @@ ghost use mathlib.Core.Path.{_≡_};
 ghost use Prim.Native.Nat.{_+_, _≤_};
 ghost use Rattle.rules.specs.Codes.Limit as Most;
 ghost use Rattle.rules.specs.Columns.{columns};
-ghost use Rattle.rules.specs.Expressions.{binary, prefix, joinedTo, takesUnary, tokenOf, opOf};
-ghost use Rattle.codes.specs.Answer.{Gives, Quiet, Untyped, nodes};
+ghost use Rattle.rules.specs.Expressions.{first, binary, prefix, joinedTo, takesUnary};
+ghost use Rattle.codes.specs.Answer.{Gives, Untyped, nodes};
 ghost use Rattle.nodes.specs.Answer.{Slots};
-ghost use Rattle.operators.specs.Answer.{bitOf, pend, joint, bitAfter, factorAfter, termAfter, factorJoined, termJoined};
+ghost use Rattle.operators.specs.Answer.{pend, meaning, joint, factors, terms, followers, among, afterOperand, factorJoined, termJoined};
 use codes::BaseToken;
 use codes::BinaryOp;
 use codes::NodeId;
@@ -18,35 +18,15 @@ use nodes::push;
 use nodes::push_older_node;
 use tokens::peek;
 
-// The operators that go on while their token repeats.
-pub enum Bitwise {
-    And,
-    Or,
-    Xor,
-}
+// Stands for an operator's code where there is none: the number after the last code.
+pub const NO_OPERATOR: u32 = 11;
 
-// What the operand that is read next is joined with.
-pub enum Pending {
-    // Nothing: it is the first operand.
-    First,
-    // What stands left of `+`, `-`, `*`, `/` or `%`.
-    Joined {
-        left: NodeId,
-        op: u32,
-        at: TokenId,
-    },
-    // What stands left of `&`, `|` or `^`.
-    Bitwise {
-        left: NodeId,
-        bit: Bitwise,
-        at: TokenId,
-    },
-    // What stands left of a shift, after which the expression ends.
-    Shift {
-        left: NodeId,
-        op: u32,
-        at: TokenId,
-    },
+// What the operand that is read next is joined with: an operator, what stands left of it, and its token's place. Where
+// there is no operator it is the first operand, and the other two say nothing.
+pub struct Pending {
+    pub op: u32,
+    pub left: NodeId,
+    pub at: TokenId,
 }
 
 // After an operand: an operator with what stands left of it, or the whole, or a refusal.
@@ -66,47 +46,29 @@ pub enum Joint {
     },
 }
 
+// Before the first operand.
+pub fn no_pending() -> Pending
+    ensures { λ r. ⌜ pend r ≡ first ⌝ }
+{
+    Pending {
+        op: NO_OPERATOR,
+        left: NodeId(0),
+        at: TokenId(0),
+    }
+}
+
 // Whether the operand that is read next is a unary, and not a product.
 pub fn takes_unary(pending: Pending) -> bool
     ensures { λ r. ⌜ r ≡ takesUnary (pend pending) ⌝ }
 {
-    match pending {
-        Pending::First => false,
-        Pending::Joined {
-            left: _,
-            op: _,
-            at: _,
-        } => false,
-        Pending::Bitwise {
-            left: _,
-            bit: _,
-            at: _,
-        } => true,
-        Pending::Shift {
-            left: _,
-            op: _,
-            at: _,
-        } => true,
-    }
-}
-
-fn token_of(bit: Bitwise) -> u8
-    ensures { λ r. ⌜ r ≡ tokenOf (bitOf bit) ⌝ }
-{
-    match bit {
-        Bitwise::And => BaseToken::Ampersand,
-        Bitwise::Or => BaseToken::Pipe,
-        Bitwise::Xor => BaseToken::Caret,
-    }
-}
-
-fn op_of(bit: Bitwise) -> u32
-    ensures { λ r. ⌜ r ≡ opOf (bitOf bit) ⌝ }
-{
-    match bit {
-        Bitwise::And => BinaryOp::BitwiseAnd,
-        Bitwise::Or => BinaryOp::BitwiseOr,
-        Bitwise::Xor => BinaryOp::BitwiseXor,
+    let op = pending.op;
+    match op {
+        BinaryOp::BitwiseAnd
+        | BinaryOp::BitwiseOr
+        | BinaryOp::BitwiseXor
+        | BinaryOp::ShiftLeft
+        | BinaryOp::ShiftRight => true,
+        _ => false,
     }
 }
 
@@ -157,144 +119,88 @@ fn push_pending(
     requires { ⌜ Slots (now «node_kinds») (now «node_loads») count ⌝ }
     ensures { λ r. ⌜ Gives (joinedTo columns (pend pending) (right .0)) (cursor .0) (nodes (now («node_kinds» .entry)) (now («node_loads» .entry)) count) r (now («node_kinds» .exit)) (now («node_loads» .exit)) ⌝ }
 {
-    match pending {
-        Pending::First => Parsed::Node {
+    let op = pending.op;
+    if op == NO_OPERATOR {
+        Parsed::Node {
             root: right,
             cursor,
             count,
-        },
-        Pending::Joined { left, op, at } => {
-            push_binary(node_kinds, node_loads, cursor, count, left, op, at, right)
         }
-        Pending::Bitwise { left, bit, at } => {
-            push_binary(
-                node_kinds,
-                node_loads,
-                cursor,
-                count,
-                left,
-                op_of(bit),
-                at,
-                right,
-            )
-        }
-        Pending::Shift { left, op, at } => {
-            push_binary(node_kinds, node_loads, cursor, count, left, op, at, right)
-        }
+    } else {
+        let left = pending.left;
+        let at = pending.at;
+        push_binary(node_kinds, node_loads, cursor, count, left, op, at, right)
     }
 }
 
-// The operator after a factor, if one stands here. Rust: parse_multiplication.
-fn next_factor(kinds: &[u8], cursor: TokenId, count: u32, left: NodeId) -> Joint
-    requires { ⌜ cursor .0 ≤ Most.Tokens + 1 ⌝ }
-    ensures { λ r. ⌜ Quiet joint (factorAfter (left .0)) (now (kinds .entry)) (cursor .0) count r ⌝ }
+// The operator of a product that this token is, if it is one. Rust: parse_multiplication.
+fn factor_operator(token: u8) -> u32
+    ensures { λ r. ⌜ r ≡ among factors token ⌝ }
 {
-    let at = cursor.0;
-    let next = TokenId(at + 1);
-    let op = match peek(kinds, cursor) {
+    match token {
         BaseToken::Times => BinaryOp::Multiply,
         BaseToken::Divide => BinaryOp::Divide,
         BaseToken::Modulo => BinaryOp::Modulo,
-        _ => {
-            return Joint::Last {
-                root: left,
-                cursor,
-                count,
-            };
-        }
-    };
-    Joint::More {
-        pending: Pending::Joined {
-            left,
-            op,
-            at: cursor,
-        },
-        cursor: next,
-        count,
+        _ => NO_OPERATOR,
     }
 }
 
-// The operator after a term, if one stands here. Rust: parse_addition.
-fn next_term(kinds: &[u8], cursor: TokenId, count: u32, left: NodeId) -> Joint
-    requires { ⌜ cursor .0 ≤ Most.Tokens + 1 ⌝ }
-    ensures { λ r. ⌜ Quiet joint (termAfter (left .0)) (now (kinds .entry)) (cursor .0) count r ⌝ }
+// The operator of a sum or after it that this token is, if it is one. Rust: parse_addition.
+fn term_operator(token: u8) -> u32
+    ensures { λ r. ⌜ r ≡ among terms token ⌝ }
 {
-    let at = cursor.0;
-    let next = TokenId(at + 1);
-    let pending = match peek(kinds, cursor) {
-        BaseToken::Ampersand => Pending::Bitwise {
-            left,
-            bit: Bitwise::And,
-            at: cursor,
-        },
-        BaseToken::Pipe => Pending::Bitwise {
-            left,
-            bit: Bitwise::Or,
-            at: cursor,
-        },
-        BaseToken::Caret => Pending::Bitwise {
-            left,
-            bit: Bitwise::Xor,
-            at: cursor,
-        },
-        BaseToken::ShiftLeft => Pending::Shift {
-            left,
-            op: BinaryOp::ShiftLeft,
-            at: cursor,
-        },
-        BaseToken::ShiftRight => Pending::Shift {
-            left,
-            op: BinaryOp::ShiftRight,
-            at: cursor,
-        },
-        BaseToken::Plus => Pending::Joined {
-            left,
-            op: BinaryOp::Add,
-            at: cursor,
-        },
-        BaseToken::Minus => Pending::Joined {
-            left,
-            op: BinaryOp::Subtract,
-            at: cursor,
-        },
-        _ => {
-            return Joint::Last {
-                root: left,
-                cursor,
-                count,
-            };
-        }
-    };
-    Joint::More {
-        pending,
-        cursor: next,
-        count,
+    match token {
+        BaseToken::Ampersand => BinaryOp::BitwiseAnd,
+        BaseToken::Pipe => BinaryOp::BitwiseOr,
+        BaseToken::Caret => BinaryOp::BitwiseXor,
+        BaseToken::ShiftLeft => BinaryOp::ShiftLeft,
+        BaseToken::ShiftRight => BinaryOp::ShiftRight,
+        BaseToken::Plus => BinaryOp::Add,
+        BaseToken::Minus => BinaryOp::Subtract,
+        _ => NO_OPERATOR,
     }
 }
 
-// The same bitwise operator again, if it stands here. Rust: parse_rest_of_bitwise_expression.
-fn next_bit(kinds: &[u8], cursor: TokenId, count: u32, left: NodeId, bit: Bitwise) -> Joint
-    requires { ⌜ cursor .0 ≤ Most.Tokens + 1 ⌝ }
-    ensures { λ r. ⌜ Quiet joint (bitAfter (bitOf bit) (left .0)) (now (kinds .entry)) (cursor .0) count r ⌝ }
+// The operator after an operand of the operator `before`: a bitwise operator is followed by itself only, and a shift by
+// none. Rust: parse_rest_of_bitwise_expression and parse_rest_of_bitshift_operation.
+fn next_operator(before: u32, token: u8) -> u32
+    ensures { λ r. ⌜ r ≡ among (followers before) token ⌝ }
 {
-    if peek(kinds, cursor) == token_of(bit) {
-        let at = cursor.0;
-        let next = TokenId(at + 1);
-        Joint::More {
-            pending: Pending::Bitwise {
-                left,
-                bit,
-                at: cursor,
-            },
-            cursor: next,
-            count,
+    let next = term_operator(token);
+    if next == NO_OPERATOR {
+        return NO_OPERATOR;
+    }
+    match before {
+        BinaryOp::BitwiseAnd | BinaryOp::BitwiseOr | BinaryOp::BitwiseXor => {
+            if next == before { next } else { NO_OPERATOR }
         }
-    } else {
-        Joint::Last {
+        BinaryOp::ShiftLeft | BinaryOp::ShiftRight => NO_OPERATOR,
+        _ => next,
+    }
+}
+
+// The operator, if there is one, whose token stands at the cursor, with what stands left of it.
+fn after_operand(cursor: TokenId, count: u32, left: NodeId, op: u32) -> Joint
+    requires { ⌜ cursor .0 ≤ Most.Tokens + 1 ⌝ }
+    ensures { λ r. ⌜ r ≡ afterOperand cursor count left op ⌝ }
+{
+    if op == NO_OPERATOR {
+        return Joint::Last {
             root: left,
             cursor,
             count,
-        }
+        };
+    }
+    let at = cursor.0;
+    let next = TokenId(at + 1);
+    Joint::More {
+        pending: Pending {
+            op,
+            left,
+            at: cursor,
+        },
+        cursor: next,
+        count,
     }
 }
 
@@ -309,7 +215,7 @@ pub fn join_factor(
     pending: Pending,
 ) -> Joint
     requires { ⌜ Slots (now «node_kinds») (now «node_loads») count × (cursor .0 ≤ Most.Tokens + 1) ⌝ }
-    ensures { λ r. ⌜ Untyped joint (factorJoined (pend pending) (right .0)) (now (kinds .entry)) (cursor .0) (nodes (now («node_kinds» .entry)) (now («node_loads» .entry)) count) r (now («node_kinds» .exit)) (now («node_loads» .exit)) ⌝ }
+    ensures { λ r. ⌜ Untyped joint (factorJoined (pend pending) (right .0)) (now (kinds .entry)) (cursor .0) (nodes (now («node_kinds» .entry)) (now («node_loads» .entry)) count) (meaning r) (now («node_kinds» .exit)) (now («node_loads» .exit)) ⌝ }
 {
     let whole = push_pending(node_kinds, node_loads, cursor, count, right, pending);
     let Parsed::Node {
@@ -320,7 +226,8 @@ pub fn join_factor(
     else {
         return Joint::Refused { refusal: whole };
     };
-    next_factor(kinds, after, used, root)
+    let op = factor_operator(peek(kinds, after));
+    after_operand(after, used, root, op)
 }
 
 // After an operand of a sum, of a bitwise operator or of a shift.
@@ -334,7 +241,7 @@ pub fn join_term(
     pending: Pending,
 ) -> Joint
     requires { ⌜ Slots (now «node_kinds») (now «node_loads») count × (cursor .0 ≤ Most.Tokens + 1) ⌝ }
-    ensures { λ r. ⌜ Untyped joint (termJoined (pend pending) (right .0)) (now (kinds .entry)) (cursor .0) (nodes (now («node_kinds» .entry)) (now («node_loads» .entry)) count) r (now («node_kinds» .exit)) (now («node_loads» .exit)) ⌝ }
+    ensures { λ r. ⌜ Untyped joint (termJoined (pend pending) (right .0)) (now (kinds .entry)) (cursor .0) (nodes (now («node_kinds» .entry)) (now («node_loads» .entry)) count) (meaning r) (now («node_kinds» .exit)) (now («node_loads» .exit)) ⌝ }
 {
     let whole = push_pending(node_kinds, node_loads, cursor, count, right, pending);
     let Parsed::Node {
@@ -345,28 +252,8 @@ pub fn join_term(
     else {
         return Joint::Refused { refusal: whole };
     };
-    match pending {
-        Pending::First => next_term(kinds, after, used, root),
-        Pending::Joined {
-            left: _,
-            op: _,
-            at: _,
-        } => next_term(kinds, after, used, root),
-        Pending::Bitwise {
-            left: _,
-            bit,
-            at: _,
-        } => next_bit(kinds, after, used, root, bit),
-        Pending::Shift {
-            left: _,
-            op: _,
-            at: _,
-        } => Joint::Last {
-            root,
-            cursor: after,
-            count: used,
-        },
-    }
+    let op = next_operator(pending.op, peek(kinds, after));
+    after_operand(after, used, root, op)
 }
 
 // The nodes of the unary operator, whose token is at `at`, after its operand.

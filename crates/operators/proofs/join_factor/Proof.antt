@@ -8,8 +8,8 @@ use Rattle.operators.proofs.join_factor.Tie as tie
 returns : tie.Need-returns
 returns c = search (needs, factor-stopped)
 
-next-factor-requires : tie.Need-next-factor-requires
-next-factor-requires c κs = search (needs, joined-at)
+after-operand-requires : tie.Need-after-operand-requires
+after-operand-requires c κs = search (needs, joined-at)
 
 returns-2 : tie.Need-returns-2
 returns-2 c = search (needs, factor-joined)
@@ -24,7 +24,9 @@ join-factor-spec =
     (λ c. search needs)
     (λ c. search needs)
     returns
-    next-factor-requires
+    (λ c κs. search needs)
+    (λ c κs. search needs)
+    after-operand-requires
     (λ c. search needs)
     (λ c. search needs)
     returns-2)

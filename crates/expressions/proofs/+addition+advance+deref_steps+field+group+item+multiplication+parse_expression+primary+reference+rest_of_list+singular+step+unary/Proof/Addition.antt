@@ -4,6 +4,7 @@ use borrow.Author.Needs.{needs}
 use lib.ListN.{length}
 use Rattle.codes.specs.Answer.{nodes, Sized}
 use Rattle.operators.proofs.join_term.Reads as join-term-reads
+use Rattle.operators.proofs.no_pending.Reads as no-pending-reads
 use Rattle.operators.proofs.takes_unary.Reads as takes-unary-reads
 use Rattle.expressions.proofs.Bounds.{term-slots, past-term}
 use Rattle.expressions.proofs.Operands.{Terms, first-term, sum-stopped, sum-refused, sum-read, sum-sized}
@@ -15,6 +16,8 @@ use Rattle.expressions.proofs.+addition+advance+deref_steps+field+group
 
 abbrev calls : ℕ → addition-lts.Claims
 calls t = (
+  no-pending-reads.Asked,
+  no-pending-reads.Learnt,
   takes-unary-reads.Asked,
   takes-unary-reads.Learnt,
   multiplication-below t,
@@ -43,10 +46,36 @@ join-term-requires : (t : ℕ) →
 join-term-requires t c κs = (search (needs, term-slots), search (needs, past-term))
 
 loop-less : (t : ℕ) → addition-lts.Need-loop-less (calls t) (addition-at t) addition.Post Inv-loop μ-loop
-loop-less t c = search (needs, sum-less)
+loop-less t c =
+    let c₁ = c .before .before .before .before .before .before .before in
+    let c₂ = c₁ .before .before .before .before in
+    let c₃ = c₂ .before .before .before .before .before .before in
+    let c₄ = c₃ .before .before .before in
+    let i = c₄ .before .loop .inv in
+    let b = c₄ .takes-unary .ensures in
+    let g = c₃ .parse-multiplication .ensures in
+    let q = c₂ .right .given .1 in
+    let d = c₁ .join-term .ensures in
+    let w = c .before .next .given .1 in
+    sum-less _ _ _ _ _ _ _ (i .3) b g q d w (i .2)
 
 loop-again : (t : ℕ) → addition-lts.Need-loop-again (calls t) (addition-at t) addition.Post Inv-loop μ-loop
-loop-again t c = (search needs, search needs, search (needs, sum-sized), search (needs, next-term))
+loop-again t c =
+    let c₁ = c .before .before .before .before .before .before .before in
+    let c₂ = c₁ .before .before .before .before in
+    let c₃ = c₂ .before .before .before .before .before .before in
+    let c₄ = c₃ .before .before .before in
+    let i = c₄ .before .loop .inv in
+    let b = c₄ .takes-unary .ensures in
+    let g = c₃ .parse-multiplication .ensures in
+    let q = c₂ .right .given .1 in
+    let d = c₁ .join-term .ensures in
+    let w = c .before .next .given .1 in (
+      search needs,
+      search needs,
+      sum-sized _ _ _ _ _ _ _ (i .3) b g q d w (i .2),
+      next-term _ _ _ _ _ _ _ (i .3) b g q d w (i .2),
+    )
 
 returns-2 : (t : ℕ) → addition-lts.Need-returns-2 (calls t) (addition-at t) addition.Post Inv-loop μ-loop
 returns-2 t c = search (needs, sum-read)
@@ -55,11 +84,12 @@ returns-3 : (t : ℕ) → addition-lts.Need-returns-3 (calls t) (addition-at t) 
 returns-3 t c = search (needs, sum-refused)
 
 loop-holds : (t : ℕ) → addition-lts.Need-loop-holds (calls t) (addition-at t) addition.Post Inv-loop μ-loop
-loop-holds t c = (refl, refl, search needs, first-term _ _ _ _ _)
+loop-holds t c = (refl, refl, search needs, search (needs, first-term))
 
 pub spec : {M : Type 1} (t : ℕ) → addition-lts.Closed (calls t) (addition-at t) addition.Post M
 spec t =
     addition-lts.spec (calls t) (addition-at t) addition.Post Inv-loop μ-loop
+    (λ c κs. search needs)
     (loop-holds t)
     (λ c κs. search needs)
     (λ c κs. search needs)

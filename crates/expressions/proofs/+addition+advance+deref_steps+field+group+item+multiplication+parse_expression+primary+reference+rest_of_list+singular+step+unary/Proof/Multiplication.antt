@@ -4,6 +4,7 @@ use borrow.Author.Needs.{needs}
 use lib.ListN.{length}
 use Rattle.codes.specs.Answer.{nodes, Sized}
 use Rattle.operators.proofs.join_factor.Reads as join-factor-reads
+use Rattle.operators.proofs.no_pending.Reads as no-pending-reads
 use Rattle.expressions.proofs.Bounds.{factor-slots, past-factor}
 use Rattle.expressions.proofs.Operands.{Factors, first-factor, product-stopped, product-bare, product-refused}
 use Rattle.expressions.proofs.Operands.{product-read, product-sized, product-less, next-factor}
@@ -13,7 +14,14 @@ use Rattle.expressions.proofs.+addition+advance+deref_steps+field+group
 use Rattle.expressions.proofs.+addition+advance+deref_steps+field+group+item+multiplication+parse_expression+primary+reference+rest_of_list+singular+step+unary.Proof.Shared.{multiplication-at, singular-below}
 
 abbrev calls : ℕ → multiplication-lts.Claims
-calls t = (singular-below t, singular.Post, join-factor-reads.Asked, join-factor-reads.Learnt)
+calls t = (
+  no-pending-reads.Asked,
+  no-pending-reads.Learnt,
+  singular-below t,
+  singular.Post,
+  join-factor-reads.Asked,
+  join-factor-reads.Learnt,
+)
 
 abbrev Inv-loop : multiplication-lts.InvT-loop
 Inv-loop kinds types node-kinds₀ node-loads₀ count unused bare pending₀ place₀ used₀ node-kinds node-loads pending
@@ -41,11 +49,37 @@ join-factor-requires t c κs = (search (needs, factor-slots), search (needs, pas
 
 loop-less : (t : ℕ) →
     multiplication-lts.Need-loop-less (calls t) (multiplication-at t) multiplication.Post Inv-loop μ-loop
-loop-less t c = search (needs, product-less)
+loop-less t c =
+    let c₁ = c .before .before .before .before .before .before .before in
+    let c₂ = c₁ .before .before .before in
+    let c₃ = c₂ .before .before in
+    let c₄ = c₃ .before .before .before .before .before .before in
+    let i = c₄ .before .before .before .loop .inv in
+    let g = c₄ .parse-singular-expression .ensures in
+    let q = c₃ .right .given .1 in
+    let b = c₂ .if1 .left in
+    let d = c₁ .join-factor .ensures in
+    let w = c .before .next .given .1 in
+    product-less _ _ _ _ _ _ _ _ (i .3) g b q d w (i .2)
 
 loop-again : (t : ℕ) →
     multiplication-lts.Need-loop-again (calls t) (multiplication-at t) multiplication.Post Inv-loop μ-loop
-loop-again t c = (search needs, search needs, search (needs, product-sized), search (needs, next-factor))
+loop-again t c =
+    let c₁ = c .before .before .before .before .before .before .before in
+    let c₂ = c₁ .before .before .before in
+    let c₃ = c₂ .before .before in
+    let c₄ = c₃ .before .before .before .before .before .before in
+    let i = c₄ .before .before .before .loop .inv in
+    let g = c₄ .parse-singular-expression .ensures in
+    let q = c₃ .right .given .1 in
+    let b = c₂ .if1 .left in
+    let d = c₁ .join-factor .ensures in
+    let w = c .before .next .given .1 in (
+      search needs,
+      search needs,
+      product-sized _ _ _ _ _ _ _ _ (i .3) g b q d w (i .2),
+      next-factor _ _ _ _ _ _ _ _ (i .3) g b q d w (i .2),
+    )
 
 returns-3 : (t : ℕ) →
     multiplication-lts.Need-returns-3 (calls t) (multiplication-at t) multiplication.Post Inv-loop μ-loop
@@ -57,11 +91,12 @@ returns-4 t c = search (needs, product-refused)
 
 loop-holds : (t : ℕ) →
     multiplication-lts.Need-loop-holds (calls t) (multiplication-at t) multiplication.Post Inv-loop μ-loop
-loop-holds t c = (refl, refl, search needs, first-factor _ _ _ _ _ _)
+loop-holds t c = (refl, refl, search needs, search (needs, first-factor))
 
 pub spec : {M : Type 1} (t : ℕ) → multiplication-lts.Closed (calls t) (multiplication-at t) multiplication.Post M
 spec t =
     multiplication-lts.spec (calls t) (multiplication-at t) multiplication.Post Inv-loop μ-loop
+    (λ c κs. search needs)
     (loop-holds t)
     (λ c κs. search needs)
     (λ c. search needs)
