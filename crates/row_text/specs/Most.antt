@@ -1,17 +1,17 @@
 -- The limits of a line.
 use Prim.Native.Nat.{ℕ}
 
--- the tokens of a row
+-- the tokens of a row with its slots
 abbrev pub Tokens : ℕ
 Tokens = 512
+
+-- the tokens that the columns hold
+abbrev pub Room : ℕ
+Room = 65536
 
 -- the slots that are lent
 abbrev pub Slots : ℕ
 Slots = 512
-
--- any number
-abbrev pub Number : ℕ
-Number = 1000000
 
 -- a kind or a value type
 abbrev pub Byte : ℕ
@@ -19,7 +19,7 @@ Byte = 255
 
 -- how often a word stands
 abbrev pub Times : ℕ
-Times = 512
+Times = 65536
 
 -- a digit, or what stands for none
 abbrev pub Digit : ℕ

@@ -18,12 +18,12 @@ pub record Numbered (line : List ℕ) (from most : ℕ) (r : Decimal) : Type 0 w
   pub high : r .next ≤ length line
   pub value : r .value ≤ most
 
--- tokens that were read at `from` after `count` others end within the line, and all of them fit the row
+-- tokens that were read at `from` after `count` others end within the line, and all of them fit the columns
 pub record Counted (line : List ℕ) (from count : ℕ) (r : Tokens) : Type 0 where
   pub low : from ≤ r .next
   pub high : r .next ≤ length line
   pub more : count ≤ r .count
-  pub fits : r .count ≤ Most.Tokens
+  pub fits : r .count ≤ Most.Room
 
 -- the text is a part of the line, and slots and tokens are within their limits
 pub record Fits (line : List ℕ) (r : Row) : Type 0 where

@@ -5,6 +5,7 @@
 // TEXT is the row as Penne has it, SLOTS how many node slots are lent. A WORD is tokens with commas between them, and
 // after a `*` how often they stand, if not once. A token is its kind, and after a `/` its value type, if that is not
 // i32. EndOfSource is a token like any other. Words need spaces between them; else spaces are free outside of words.
+// A program may have other settings in the place of SLOTS, each a name and a number.
 ghost use Prim.Native.Nat.{ℕ, _+_, _-_, _*_, _≤_, _<_};
 ghost use mathlib.Core.Path.{_≡_};
 ghost use lib.ListN.{length, getD};
@@ -12,19 +13,22 @@ ghost use Rattle.row_text.specs.Most as Most;
 ghost use Rattle.row_text.specs.Read.{Within, Numbered, Counted, Fits};
 use codes::ValueTypeKeyword;
 
-// The most tokens of a row, and the most slots.
-pub const TOKENS: usize = 512;
+// The tokens that the columns hold: one more than an entry takes, so that a line can say a row that is too long.
+pub const TOKENS: usize = 65_536;
+
+// The most tokens of a row with its slots, and the most slots.
+const ROW_TOKENS: usize = 512;
 
 pub const SLOTS: u32 = 512;
 
 // Numbers are decimal.
-const BASE: u32 = 10;
+const BASE: u64 = 10;
 
 // Kinds and value types are bytes.
 const BYTE: u32 = 255;
 
 // Words stand at most so often.
-const TIMES: u32 = 512;
+const TIMES: u32 = 65_536;
 
 // A number and the place after it; 0 where none was found.
 pub struct Decimal {
@@ -109,7 +113,7 @@ pub fn trim(line: &[u8], end: usize) -> usize
 }
 
 // The value of a digit, and BASE for what is none.
-fn digit(byte: u8) -> u32
+fn digit(byte: u8) -> u64
     ensures { λ r. ⌜ r ≤ Most.Digit ⌝ }
 {
     if byte < b'0' {
@@ -118,7 +122,7 @@ fn digit(byte: u8) -> u32
     if b'9' < byte {
         return BASE;
     }
-    wide(byte - b'0')
+    wide(byte - b'0') as u64
 }
 
 fn wide(byte: u8) -> u32
@@ -129,23 +133,24 @@ fn wide(byte: u8) -> u32
 
 // The number at this place, if it is at most so large.
 pub fn number(line: &[u8], from: usize, most: u32) -> Decimal
-    requires { ⌜ (from ≤ length (now line)) × (most ≤ Most.Number) ⌝ }
+    requires { ⌜ from ≤ length (now line) ⌝ }
     ensures { λ r. ⌜ Numbered (now (line .entry)) from most r ⌝ }
 {
+    let limit = most as u64;
     let mut at = from;
-    let mut value: u32 = 0;
+    let mut value: u64 = 0;
     while at < line.len() {
         let more = digit(line[at]);
-        if most < value || more == BASE {
+        if limit < value || more == BASE {
             break;
         }
         value = value * BASE + more;
         at += 1;
     }
-    if from < at && value <= most {
+    if value <= limit {
         return Decimal {
-            found: true,
-            value,
+            found: from < at,
+            value: value as u32,
             next: at,
         };
     }
@@ -180,7 +185,7 @@ fn read_token(
     types: &mut [u8; TOKENS],
     count: usize,
 ) -> Tokens
-    requires { ⌜ (from ≤ length (now line)) × (count ≤ Most.Tokens) ⌝ }
+    requires { ⌜ (from ≤ length (now line)) × (count ≤ Most.Room) ⌝ }
     ensures { λ r. ⌜ Counted (now (line .entry)) from count r ⌝ }
 {
     let kind = number(line, from, BYTE);
@@ -211,7 +216,7 @@ fn read_group(
     types: &mut [u8; TOKENS],
     count: usize,
 ) -> Tokens
-    requires { ⌜ (from ≤ length (now line)) × (count ≤ Most.Tokens) ⌝ }
+    requires { ⌜ (from ≤ length (now line)) × (count ≤ Most.Room) ⌝ }
     ensures { λ r. ⌜ Counted (now (line .entry)) from count r ⌝ }
 {
     let mut at = from;
@@ -230,7 +235,7 @@ fn read_group(
 
 // The tokens from `first` up to `past` again and again, until there are `end`.
 fn repeat(kinds: &mut [u8; TOKENS], types: &mut [u8; TOKENS], first: usize, past: usize, end: usize)
-    requires { ⌜ (first ≤ past) × (end ≤ Most.Tokens) ⌝ }
+    requires { ⌜ (first ≤ past) × (end ≤ Most.Room) ⌝ }
 {
     let mut from = first;
     let mut to = past;
@@ -244,7 +249,7 @@ fn repeat(kinds: &mut [u8; TOKENS], types: &mut [u8; TOKENS], first: usize, past
 
 // How many tokens there are if those from `first` up to `past` stand so often.
 fn repeated(first: usize, past: usize, times: usize) -> usize
-    requires { ⌜ (first ≤ past) × (past ≤ Most.Tokens) × (times ≤ Most.Times) ⌝ }
+    requires { ⌜ (first ≤ past) × (past ≤ Most.Room) × (times ≤ Most.Times) ⌝ }
     ensures { λ r. ⌜ r ≡ first + (past - first) * times ⌝ }
 {
     first + (past - first) * times
@@ -258,7 +263,7 @@ fn read_word(
     types: &mut [u8; TOKENS],
     count: usize,
 ) -> Tokens
-    requires { ⌜ (from ≤ length (now line)) × (count ≤ Most.Tokens) ⌝ }
+    requires { ⌜ (from ≤ length (now line)) × (count ≤ Most.Room) ⌝ }
     ensures { λ r. ⌜ Counted (now (line .entry)) from count r ⌝ }
 {
     let group = read_group(line, from, kinds, types, count);
@@ -318,7 +323,51 @@ pub fn read_tokens(
     }
 }
 
-// The row that a line says; its tokens are put into the columns.
+// The place after this name if it stands here, else this place.
+pub fn named(line: &[u8], from: usize, name: &[u8]) -> usize
+    requires { ⌜ from ≤ length (now line) ⌝ }
+    ensures { λ r. ⌜ Within (now (line .entry)) from r ⌝ }
+{
+    let mut at = from;
+    let mut read: usize = 0;
+    while read < name.len() {
+        if line.len() <= at {
+            return from;
+        }
+        if line[at] != name[read] {
+            return from;
+        }
+        at += 1;
+        read += 1;
+    }
+    at
+}
+
+// The number after this name, if the name stands here, and the place of what follows; else the other number, and this
+// place.
+pub fn setting(line: &[u8], from: usize, name: &[u8], most: u32, other: u32) -> Decimal
+    requires { ⌜ (from ≤ length (now line)) × (other ≤ most) ⌝ }
+    ensures { λ r. ⌜ Numbered (now (line .entry)) from most r ⌝ }
+{
+    let inside = named(line, from, name);
+    if inside == from {
+        return Decimal {
+            found: true,
+            value: other,
+            next: from,
+        };
+    }
+    let start = skip(line, inside);
+    let read = number(line, start, most);
+    let end = read.next;
+    Decimal {
+        found: read.found,
+        value: read.value,
+        next: skip(line, end),
+    }
+}
+
+// The row with its slots that a line says; its tokens are put into the columns.
 pub fn read_row(line: &[u8], kinds: &mut [u8; TOKENS], types: &mut [u8; TOKENS]) -> Row
     ensures { λ r. ⌜ Fits (now (line .entry)) r ⌝ }
 {
@@ -331,10 +380,11 @@ pub fn read_row(line: &[u8], kinds: &mut [u8; TOKENS], types: &mut [u8; TOKENS])
     let colon = skip(line, after_slots);
     let inside = after(line, colon, b':');
     let tokens = read_tokens(line, inside, kinds, types);
+    let fits = tokens.count <= ROW_TOKENS;
     Row {
-        good: slots.found && colon < inside && tokens.good,
+        good: slots.found && colon < inside && tokens.good && fits,
         text,
         slots: slots.value as usize,
-        tokens: tokens.count,
+        tokens: if fits { tokens.count } else { 0 },
     }
 }

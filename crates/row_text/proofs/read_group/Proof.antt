@@ -8,7 +8,7 @@ use Rattle.row_text.proofs.read_group.Tie as tie
 
 abbrev Inv-loop : tie.InvT-loop
 Inv-loop line from kinds₀ types₀ count at₀ used₀ kinds types at used =
-    (from ≤ at) × (at ≤ length line) × (count ≤ used) × (used ≤ Most.Tokens)
+    (from ≤ at) × (at ≤ length line) × (count ≤ used) × (used ≤ Most.Room)
 
 abbrev μ-loop : tie.MeasureT-loop
 μ-loop line from kinds₀ types₀ count at₀ used₀ kinds types at used = length line - at

@@ -8,7 +8,7 @@ use Rattle.row_text.proofs.read_tokens.Tie as tie
 
 abbrev Inv-loop : tie.InvT-loop
 Inv-loop line from kinds₀ types₀ at₀ count₀ kinds types at count =
-    (from ≤ at) × (at ≤ length line) × (count ≤ Most.Tokens)
+    (from ≤ at) × (at ≤ length line) × (count ≤ Most.Room)
 
 abbrev μ-loop : tie.MeasureT-loop
 μ-loop line from kinds₀ types₀ at₀ count₀ kinds types at count = length line - at

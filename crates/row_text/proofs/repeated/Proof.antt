@@ -7,9 +7,9 @@ use Rattle.row_text.specs.Most as Most
 use Rattle.row_text.proofs.repeated.Statement.{statement}
 use Rattle.row_text.proofs.repeated.Tie as tie
 
-below : (first past times : ℕ) → past ≤ Most.Tokens → times ≤ Most.Times →
-    (past - first) * times ≤ Most.Tokens * Most.Times
-below first past times tokens most = mul-le-mul {n₂ = Most.Tokens} {m₂ = Most.Times} (omega arith) most
+below : (first past times : ℕ) → past ≤ Most.Room → times ≤ Most.Times →
+    (past - first) * times ≤ Most.Room * Most.Times
+below first past times tokens most = mul-le-mul {n₂ = Most.Room} {m₂ = Most.Times} (omega arith) most
 
 mul-result : tie.Need-mul-result
 mul-result c = omega (arith, below (c .args .first) (c .args .past) (c .args .times) (search needs) (search needs))
