@@ -3,6 +3,7 @@
 ghost use Prim.Native.Nat.{_≤_, _<_};
 ghost use mathlib.Core.Path.{_≡_};
 ghost use lib.ListN.{length};
+ghost use Rattle.entry_rows.specs.Kept.{oldKind, oldLoad, keptSlot, keptFrom};
 ghost use Rattle.entry_rows.specs.Most as Most;
 use libc::STDOUT_FILENO;
 
@@ -27,13 +28,16 @@ const MODULUS: u64 = 4_294_967_291;
 const FACTOR: u64 = 65_537;
 
 // What a slot of the kinds holds before the call.
-fn old_kind(slot: usize) -> u8 {
+fn old_kind(slot: usize) -> u8
+    ensures { λ r. ⌜ r ≡ oldKind slot ⌝ }
+{
     FIRST_KIND + (slot % KINDS) as u8
 }
 
 // What a slot of the loads holds before the call.
 fn old_load(slot: usize) -> u32
     requires { ⌜ slot < Most.Slots ⌝ }
+    ensures { λ r. ⌜ r ≡ oldLoad slot ⌝ }
 {
     FIRST_LOAD + slot as u32
 }
@@ -59,12 +63,27 @@ pub fn fill_loads(column: &mut [u32])
     }
 }
 
+// Whether a slot holds what it held before the call, or is one that the call may write.
+fn slot_kept(same: bool, slot: usize, given: usize, replied: usize) -> bool
+    ensures { λ r. ⌜ r ≡ keptSlot same slot given replied ⌝ }
+{
+    if same {
+        return true;
+    }
+    if slot < given {
+        return false;
+    }
+    slot < replied
+}
+
 // Whether the slots below the given count and from the replied count on hold what they held before the call.
-pub fn kinds_kept(column: &[u8], given: usize, replied: usize) -> bool {
+pub fn kinds_kept(column: &[u8], given: usize, replied: usize) -> bool
+    ensures { λ r. ⌜ r ≡ keptFrom oldKind (now (column .entry)) given replied 0 (length (now (column .entry))) ⌝ }
+{
     let mut slot: usize = 0;
     while slot < column.len() {
-        let kept = slot < given || replied <= slot;
-        if kept && column[slot] != old_kind(slot) {
+        let same = column[slot] == old_kind(slot);
+        if !slot_kept(same, slot, given, replied) {
             return false;
         }
         slot += 1;
@@ -74,11 +93,12 @@ pub fn kinds_kept(column: &[u8], given: usize, replied: usize) -> bool {
 
 pub fn loads_kept(column: &[u32], given: usize, replied: usize) -> bool
     requires { ⌜ length (now column) ≤ Most.Slots ⌝ }
+    ensures { λ r. ⌜ r ≡ keptFrom oldLoad (now (column .entry)) given replied 0 (length (now (column .entry))) ⌝ }
 {
     let mut slot: usize = 0;
     while slot < column.len() {
-        let kept = slot < given || replied <= slot;
-        if kept && column[slot] != old_load(slot) {
+        let same = column[slot] == old_load(slot);
+        if !slot_kept(same, slot, given, replied) {
             return false;
         }
         slot += 1;
