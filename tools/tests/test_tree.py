@@ -10,6 +10,8 @@ from places import PROGRAM, TOOLS
 # Blocks of an entry with its tokens, what is written for them, and how that is drawn. The nodes are the Rust's.
 DRAWINGS = os.path.join(TOOLS, "tests/drawings.txt")
 
+SENTENCES = os.path.join(TOOLS, "tests/refusals.txt")
+
 
 def blocks():
     with open(DRAWINGS, encoding="utf-8") as file:
@@ -60,47 +62,23 @@ class Drawings(unittest.TestCase):
 
 
 class Refusals(unittest.TestCase):
-    """The sentence of each number, with a place that is shown where the number has one."""
+    """The sentence of each number, for the tokens 5 to 9. The Rust package is tested with the same sentences."""
 
-    SENTENCES = {
-        1: "The kinds and the value types differ in number, or there is no token, or more than 65,535.",
-        2: "Token 5 has a kind above 61 or a value type above 14.",
-        3: "The last token, token 5, is not EndOfSource.",
-        10: "Token 5 should be an assignment `=`.",
-        11: "Token 5 should be an opening brace `{`.",
-        12: "Token 5 should be a closing brace `}`.",
-        13: "Token 5 should be a closing bracket `]`.",
-        14: "Token 5 should be an opening parenthesis `(`.",
-        15: "Token 5 should be a closing parenthesis `)`.",
-        16: "Token 5 should be a pipe `|`.",
-        17: "Token 5 should be a semicolon `;`.",
-        18: "Token 5 should be an identifier.",
-        19: "Token 5 should be an array size: a naked decimal, an identifier, `]`, `:` or `..`.",
-        20: "Token 5 should be the start of a type.",
-        21: "Token 5 should be the start of a primary expression.",
-        22: "Token 5 should be the colon `:` after the name of a constant.",
-        23: "Token 5 should be the colon `:` after the name of a member.",
-        24: "There are too many ampersands or reference steps: they begin at token 5 and end before token 9.",
-        25: "Token 5 should be the comma `,` after a member.",
-        30: "The cursor or the start of the declaration is not below the number of tokens.",
-        31: "The node columns differ in length, or have more than 131,075 slots.",
-        32: "The node count is above the number of slots.",
-        33: "No slot is left for a node, with the cursor at token 5.",
-        34: "An expression or inner type begins at token 5, and 200 are already open.",
-        35: "The declaration flags are above 31.",
-        36: "The kind given for a word declaration is not one of word8 to word128.",
-    }
+    def setUp(self):
+        with open(SENTENCES, encoding="utf-8") as file:
+            lines = (line.rstrip("\n").split(" ", 1) for line in file)
+            self.sentences = {int(number): sentence for number, sentence in lines}
 
     def test_sentences(self):
-        self.assertEqual(list(self.SENTENCES), list(codes.REFUSALS))
-        for number, sentence in self.SENTENCES.items():
+        self.assertEqual(list(self.sentences), list(codes.REFUSALS))
+        for number, sentence in self.sentences.items():
             lines = penne_tree.picture(penne_tree.read(f"no {number} 5 9 6 1\n0 52 0\n"))
             expected = [f"Refused with {number}. {sentence}", "Cursor 6, 1 node.", "0 UnpatchedListItem"]
             self.assertEqual(lines, expected)
 
     def test_the_token_is_shown_where_the_sentence_names_it(self):
         row = penne_row.tokens(b"a b c d e f")
-        for number, sentence in self.SENTENCES.items():
+        for number, sentence in self.sentences.items():
             lines = penne_tree.picture(penne_tree.read(f"no {number} 5 9 6 0\n"), row)
             self.assertEqual("Token 5 is `f`." in lines, "oken 5" in sentence)
 
