@@ -143,14 +143,14 @@ impl Beside {
         self.mark_again(question.base, count);
     }
 
-    /// Whether the appended nodes are the Rust's, and all other slots as they were.
+    /// Whether the appended nodes are the Rust's, and the slots before and after them as they were.
     fn nodes_agree(&self, base: u32, count: u32) -> bool {
         let (base, count) = (base as usize, count as usize);
         let node = |place: usize| (self.kinds[place], self.loads[place]);
-        let around = base.saturating_sub(5)..base;
+        let before = base.saturating_sub(50)..base;
         let after = count..(count + 50).min(self.kinds.len());
         let appended = (base..count).map(node);
-        appended.eq(self.buffer.appended()) && around.chain(after).all(|place| node(place) == MARK)
+        appended.eq(self.buffer.appended()) && before.chain(after).all(|place| node(place) == MARK)
     }
 
     fn mark_again(&mut self, base: u32, count: u32) {
