@@ -37,6 +37,16 @@ class Drawings(unittest.TestCase):
         expected = "Accepted: root 1, cursor 3, 2 nodes.\n1 Parenthesized\n└─ 0 UntypedIntegerLiteral token 1\n"
         self.assertEqual(run("ok 1 3 2\n0 27 1\n1 18 0\n"), (0, expected, ""))
 
+    def test_a_row_that_begins_with_a_minus(self):
+        status, drawing, _ = run("ok 2 2 3\n0 27 1\n1 24 0\n2 23 0\n", "--row=-1")
+        self.assertEqual((status, drawing.split("\n")[1]), (0, "2 Unary token 0 `-`"))
+
+    def test_a_drawing_that_is_cut_short(self):
+        nodes = "0 27 0\n" + "".join(f"{number} 18 0\n" for number in range(1, 1000))
+        command = f"{TOOLS}/tree | head -n 1"
+        result = subprocess.run(command, shell=True, input=f"ok 999 1999 1000\n{nodes}", capture_output=True, text=True)
+        self.assertEqual((result.stdout, result.stderr), ("Accepted: root 999, cursor 1999, 1000 nodes.\n", ""))
+
     def test_bad_file(self):
         self.assertEqual(run("bad file\n"), (1, "bad file\n", ""))
 
