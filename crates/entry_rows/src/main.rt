@@ -174,13 +174,16 @@ fn show_lines(
     }
 }
 
+// The most bytes of the input, and one more.
+const INPUT: usize = 524_288;
+
 // The columns stand here once, and are lent to each row.
 fn main() {
     let mut kinds = [0u8; TOKENS];
     let mut types = [0u8; TOKENS];
     let mut node_kinds = [0u8; SLOTS];
     let mut node_loads = [0u32; SLOTS];
-    let mut input = io::large_buffer();
+    let mut input = [0u8; INPUT];
     let length = io::read_full(STDIN_FILENO, &mut input);
     if length == input.len() {
         io::write_all(STDOUT_FILENO, b"bad file\n");
