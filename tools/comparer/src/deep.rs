@@ -69,7 +69,7 @@ fn constant(kinds: &mut Vec<u8>, levels: usize, choice: Choice<'_>) {
     kinds.extend([IDENTIFIER, COLON]);
     let deep_type = match &choice {
         Choice::Same(place) => *place < TYPES.len(),
-        Choice::Any(_) => levels % 2 == 0,
+        Choice::Any(_) => levels.is_multiple_of(2),
     };
     if deep_type {
         nest(kinds, true, levels, choice);

@@ -8,6 +8,8 @@ use crate::random::Random;
 pub struct Writer {
     pub random: Random,
     pub kinds: Vec<u8>,
+    /// Whether now and then a list has many items.
+    pub long_lists: bool,
 }
 
 const LITERALS: [u8; 6] = [
@@ -39,6 +41,7 @@ impl Writer {
         Writer {
             random,
             kinds: Vec::new(),
+            long_lists: false,
         }
     }
 
@@ -80,13 +83,21 @@ impl Writer {
         }
     }
 
-    /// How many more there are in a row: mostly none or few.
+    /// How many items a list has: below `most`, or now and then many.
+    fn times(&mut self, most: usize) -> usize {
+        if self.long_lists && self.random.once_in(1_000) {
+            return self.random.below(100);
+        }
+        self.random.below(most)
+    }
+
+    /// How many more operands follow one: mostly none or few.
     fn few(&mut self, room: usize) -> usize {
         match self.random.below(8) {
             0..=3 => 0,
             4 | 5 => 1,
             6 => 2,
-            _ => self.random.below(if room > 2 { 3 } else { 6 }),
+            _ => self.times(if room > 2 { 3 } else { 6 }),
         }
     }
 
@@ -197,7 +208,7 @@ impl Writer {
     }
 
     fn items(&mut self, room: usize, close: u8) {
-        let times = self.random.below(4);
+        let times = self.times(4);
         for left in (0..times).rev() {
             self.expression(room - 1);
             self.comma(left);
@@ -213,7 +224,7 @@ impl Writer {
     }
 
     fn fields(&mut self, room: usize) {
-        let times = self.random.below(4);
+        let times = self.times(4);
         for left in (0..times).rev() {
             self.put(&[IDENTIFIER]);
             if !self.random.once_in(3) {
@@ -274,7 +285,7 @@ impl Writer {
 
     fn members(&mut self, room: usize) {
         self.put(&[BRACE_LEFT]);
-        let times = self.random.below(5);
+        let times = self.times(5);
         for _ in 0..times {
             self.put(&[IDENTIFIER, COLON]);
             self.inner_type(room);

@@ -76,6 +76,25 @@ impl Judge {
         Ok(reply)
     }
 
+    /// What the Rust alone says, in words: for people, not for comparing.
+    pub fn rust_alone(&mut self, question: &Question) -> String {
+        let Some(tokens) = &self.tokens else {
+            return "the row cannot be given to it".into();
+        };
+        use oracle::Reply::{Accepted, Panicked, Refused};
+        match ask(tokens, question, &mut self.buffer) {
+            Ok(Panicked {
+                cause,
+                cursor,
+                count,
+            }) => format!("panics: {cause:?}, cursor {cursor}, count {count}"),
+            Ok(reply @ (Accepted { .. } | Refused { .. })) => {
+                in_document_01(reply).map_or_else(|Doubt(text)| text, |reply| reply.to_string())
+            }
+            Err(_) => "this cannot be given to it".into(),
+        }
+    }
+
     /// The answer where one expression or inner type too many is to begin at
     /// `place`. Up to there the Rust is asked, with EndOfSource at that place:
     /// it must refuse just that token, as no start of a primary or of a type,
@@ -155,7 +174,11 @@ fn ask(tokens: &oracle::Row, q: &Question, buffer: &mut Buffer) -> Result<oracle
         cursor: q.cursor,
         base: q.base,
         slots: Some(q.slots),
-        flags: if declares { q.flags as u8 } else { 0 },
+        flags: if declares {
+            u8::try_from(q.flags).unwrap_or(u8::MAX)
+        } else {
+            0
+        },
         start: if declares { q.start } else { 0 },
         word_kind: q.word_kind,
     };

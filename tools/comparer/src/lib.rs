@@ -2,11 +2,17 @@
 //! See the script tools/compare and the section about it in README.md.
 
 pub mod checks;
+pub mod columns;
+pub mod compare;
 pub mod deep;
+pub mod exhaustive;
+pub mod families;
 pub mod grammar;
 pub mod judge;
 pub mod kind;
 pub mod levels;
+pub mod limits;
 pub mod question;
 pub mod random;
 pub mod rows;
+pub mod tally;

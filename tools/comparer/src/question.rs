@@ -123,14 +123,21 @@ impl Reply {
 /// As the oracle's program prints it.
 impl fmt::Display for Reply {
     fn fmt(&self, f: &mut fmt::Formatter<'_>) -> fmt::Result {
-        let numbers = self.numbers();
-        match self {
-            Reply::Accepted { .. } => write!(f, "ok {} {} {}", numbers[1], numbers[2], numbers[3]),
-            Reply::Refused { .. } => write!(
-                f,
-                "no {} {} {} {} {}",
-                numbers[1], numbers[2], numbers[3], numbers[4], numbers[5]
-            ),
+        Numbers(self.numbers()).fmt(f)
+    }
+}
+
+/// A reply of six numbers, printed likewise.
+pub struct Numbers(pub [u32; 6]);
+
+impl fmt::Display for Numbers {
+    fn fmt(&self, f: &mut fmt::Formatter<'_>) -> fmt::Result {
+        match self.0 {
+            [0, root, cursor, count, 0, 0] => write!(f, "ok {root} {cursor} {count}"),
+            [1, number, start, end, cursor, count] => {
+                write!(f, "no {number} {start} {end} {cursor} {count}")
+            }
+            other => write!(f, "no reply: {other:?}"),
         }
     }
 }
@@ -156,6 +163,54 @@ impl fmt::Display for Line<'_> {
             q.slots
         )
     }
+}
+
+/// Reads what `Line` writes: kinds, value types and question.
+pub fn read_line(line: &str) -> Option<(Vec<u8>, Vec<u8>, Question)> {
+    let fields: Vec<&str> = line.split_ascii_whitespace().collect();
+    let [
+        entry,
+        cursor,
+        base,
+        flags,
+        start,
+        word_kind,
+        kinds,
+        types,
+        slots,
+    ] = fields[..]
+    else {
+        return None;
+    };
+    let kinds = match kinds {
+        "-" => Vec::new(),
+        digits => bytes(digits)?,
+    };
+    let types = match types {
+        "-" => vec![0; kinds.len()],
+        digits => bytes(digits)?,
+    };
+    let entry = *Entry::ALL.get(entry.parse::<usize>().ok()?)?;
+    let question = Question {
+        cursor: cursor.parse().ok()?,
+        base: base.parse().ok()?,
+        flags: flags.parse().ok()?,
+        start: start.parse().ok()?,
+        word_kind: word_kind.parse().ok()?,
+        ..Question::new(entry, slots.parse().ok()?)
+    };
+    Some((kinds, types, question))
+}
+
+/// Two hexadecimal digits a byte.
+fn bytes(digits: &str) -> Option<Vec<u8>> {
+    if !digits.len().is_multiple_of(2) || !digits.is_ascii() {
+        return None;
+    }
+    (0..digits.len())
+        .step_by(2)
+        .map(|at| u8::from_str_radix(&digits[at..at + 2], 16).ok())
+        .collect()
 }
 
 fn hexadecimal(bytes: &[u8]) -> String {

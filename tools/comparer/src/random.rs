@@ -7,12 +7,12 @@ impl Random {
     pub fn new(seed: u64, family: u64, part: u64) -> Random {
         let mut random = Random(seed);
         for more in [family, part] {
-            random.0 = random.next() ^ more;
+            random.0 = random.number() ^ more;
         }
         random
     }
 
-    pub fn next(&mut self) -> u64 {
+    pub fn number(&mut self) -> u64 {
         self.0 = self.0.wrapping_add(0x9e37_79b9_7f4a_7c15);
         let mut z = self.0;
         z = (z ^ (z >> 30)).wrapping_mul(0xbf58_476d_1ce4_e5b9);
@@ -22,7 +22,7 @@ impl Random {
 
     /// A number below n, which is above 0 and below 2^32.
     pub fn below(&mut self, n: usize) -> usize {
-        (((self.next() >> 32) * n as u64) >> 32) as usize
+        (((self.number() >> 32) * n as u64) >> 32) as usize
     }
 
     /// True once in n times.

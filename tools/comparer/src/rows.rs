@@ -134,7 +134,10 @@ pub fn needed(tokens: usize) -> usize {
 /// Spoils the row or the question so that it meets one of the refusals before
 /// parsing (or, rarely, none).
 pub fn spoil(maker: &mut Maker, question: &mut Question) {
-    let tokens = maker.row().kinds.len();
+    let tokens = maker.row().kinds.len().min(maker.types.len());
+    if tokens == 0 {
+        return;
+    }
     let random = &mut maker.writer.random;
     let kinds = &mut maker.writer.kinds;
     let types = &mut maker.types;
