@@ -37,6 +37,9 @@ pub struct Finding(pub String);
 /// So many differences are told; beyond, they are only counted.
 const TOLD: usize = 3;
 
+/// So many smaller rows are tried for a difference that is told.
+const TRIES: u32 = 2_000;
+
 /// So many of the nodes are told on each side.
 const NODES_TOLD: usize = 40;
 
@@ -144,16 +147,37 @@ impl<P: Parser> Comparer<P> {
         self.answers(&small.question).difference.is_some()
     }
 
-    /// Takes away what the difference does not need, until nothing is left
-    /// that can be taken away singly.
+    /// Takes away what the difference does not need: first of the question,
+    /// then of the row, longer stretches of tokens before shorter ones.
     fn shrink(&mut self, small: &mut Small) {
-        loop {
-            let smaller = small.steps().find(|step| self.differs(step));
-            match smaller {
-                Some(step) => *small = step,
-                None => return,
-            }
+        let mut tries = TRIES;
+        for step in small.simpler() {
+            self.step(small, step(small), &mut tries);
         }
+        let mut length = small.kinds.len();
+        while length > 0 {
+            let tokens = small.kinds.len();
+            let mut place = 0;
+            while place < small.kinds.len() && tries > 0 {
+                let shorter = small.without(place, length);
+                if !self.step(small, shorter, &mut tries) {
+                    place += length;
+                }
+            }
+            // Single tokens are tried until none can go.
+            let again = length == 1 && small.kinds.len() < tokens;
+            length = if again { 1 } else { length / 2 };
+        }
+    }
+
+    /// Takes a step if the difference stays.
+    fn step(&mut self, small: &mut Small, step: Small, tries: &mut u32) -> bool {
+        *tries = tries.saturating_sub(1);
+        let stays = step != *small && self.differs(&step);
+        if stays {
+            *small = step;
+        }
+        stays
     }
 
     fn in_words(&mut self, small: &Small) -> String {
@@ -228,42 +252,36 @@ impl Small {
         }
     }
 
-    /// The rows and questions that are one step smaller.
-    fn steps(&self) -> impl Iterator<Item = Small> {
-        let q = self.question;
-        let questions = [
-            Question { base: 0, ..q },
-            Question { flags: 0, ..q },
-            Question { start: 0, ..q },
-        ];
-        let by_question = questions.map(|question| Small {
-            question,
-            ..self.clone()
-        });
-        let without_types = Small {
-            types: vec![0; self.types.len()],
-            ..self.clone()
-        };
-        let shorter = (0..self.kinds.len()).map(|place| self.without(place));
-        let steps: Vec<Small> = by_question
-            .into_iter()
-            .chain([without_types])
-            .chain(shorter)
-            .filter(|step| step != self)
-            .collect();
-        steps.into_iter()
+    /// What can be made simpler besides the row's length.
+    fn simpler(&self) -> [fn(&Small) -> Small; 4] {
+        [
+            |small| small.with(|q| q.base = 0),
+            |small| small.with(|q| q.flags = 0),
+            |small| small.with(|q| q.start = 0),
+            |small| Small {
+                types: vec![0; small.types.len()],
+                ..small.clone()
+            },
+        ]
     }
 
-    /// The row without a token; the cursor stays at its token.
-    fn without(&self, place: usize) -> Small {
+    fn with(&self, change: fn(&mut Question)) -> Small {
         let mut step = self.clone();
-        step.kinds.remove(place);
-        if place < step.types.len() {
-            step.types.remove(place);
-        }
-        if place < step.question.cursor as usize {
-            step.question.cursor -= 1;
-        }
+        change(&mut step.question);
+        step
+    }
+
+    /// The row without some tokens; the cursor stays at its token.
+    fn without(&self, place: usize, length: usize) -> Small {
+        let mut step = self.clone();
+        step.kinds
+            .drain(place..(place + length).min(self.kinds.len()));
+        let types = self.types.len();
+        step.types
+            .drain(place.min(types)..(place + length).min(types));
+        let cursor = self.question.cursor as usize;
+        let before = cursor.saturating_sub(place).min(length);
+        step.question.cursor = (cursor - before) as u32;
         step
     }
 }

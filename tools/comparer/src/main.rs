@@ -138,16 +138,16 @@ fn work(seed: u64, parts: &[Part], taken: &AtomicUsize, results: &Results) {
     let mut comparer = Comparer::new(Ours);
     while let Some(part) = parts.get(taken.fetch_add(1, Ordering::Relaxed)) {
         part.run(seed, &mut comparer);
-        let mut results = results.lock().expect("no thread panicked");
-        let (tallies, findings) = &mut *results;
+        let (tallies, _) = &mut *results.lock().expect("no thread panicked");
         for (family, tally) in tallies {
             if *family == part.family {
                 tally.add(&comparer.tally);
             }
         }
-        findings.append(&mut comparer.findings);
         comparer.tally = Tally::new();
     }
+    let (_, findings) = &mut *results.lock().expect("no thread panicked");
+    findings.append(&mut comparer.findings);
 }
 
 /// Prints the table and gives the number of differences.
