@@ -6,7 +6,7 @@ use oracle::{Buffer, Cause};
 use crate::checks;
 use crate::kind::END_OF_SOURCE;
 use crate::levels::{self, End, Reading};
-use crate::question::{MOST_OPEN, Question, Reply, Row};
+use crate::question::{MOST_OPEN, MOST_SLOTS, Question, Reply, Row};
 
 /// The judge's own parts disagree; no answer of another parser is judged then.
 #[derive(Debug)]
@@ -101,6 +101,7 @@ impl Judge {
     /// having appended what was to be appended; or its slots were used up
     /// before.
     fn cut(&mut self, question: &Question, place: u32) -> Result<Reply, Doubt> {
+        self.nests_too_deep(question)?;
         let end = place as usize;
         let kinds = [&self.kinds[..end], &[END_OF_SOURCE]].concat();
         let types = [&self.types[..end], &[0]].concat();
@@ -127,6 +128,20 @@ impl Judge {
             other => Err(Doubt(format!(
                 "201 are open at {place}, but the Rust, cut there: {other}"
             ))),
+        }
+    }
+
+    /// If the Rust accepts the whole row, its nodes must show a nesting that is
+    /// too deep.
+    fn nests_too_deep(&mut self, question: &Question) -> Result<(), Doubt> {
+        let tokens = self.tokens.as_ref().ok_or_else(|| doubt("no tokens"))?;
+        let question = question.with_slots(MOST_SLOTS);
+        let reply = ask(tokens, &question, &mut self.buffer)?;
+        match oracle::nesting(question.entry, reply, &self.buffer) {
+            Some(deepest) if deepest <= MOST_OPEN => {
+                Err(Doubt(format!("the Rust nests {deepest} deep")))
+            }
+            _ => Ok(()),
         }
     }
 
