@@ -72,8 +72,8 @@ token found, the node appended last, two nodes that follow each other in an acce
 kinds. Shorter rows are preferred.
 
 Each line of `stdin-*` is a question as `oracle/README.md` describes it, and the same line of `stdout-*` the answer to it
-in that form. The answers are those of the Rust, run unchanged by `oracle/`; only where it panics (25, 33), does not limit
-(34) or cannot be asked (1, 2, 3, 30, 31, 32, 35, 36) they are document 01's.
+in that form. The answers are those of the Rust, run unchanged by `oracle/`; only where it panics (25, 33, 36), does not
+limit (34) or cannot be asked (1, 2, 3, 30, 31, 32, 35) they are document 01's.
 
 In `draft` rows have at most 64 tokens and 300 slots, and the base is not above the slots. In `draft-wide` are the
 refusals that this leaves out, 24, 31, 32 and 34, with the rows on the other side of each limit.
