@@ -268,7 +268,7 @@ module _ {tk tv ns ls : List ℕ} {c k : ℕ} where
         declaration-passed start flags (both-passed _ _ (sym f ∙ ap checkOf g) .0)
 
 -- the count of a reply is that of the columns
-counted : (res : Result ℕ) (p k : ℕ) → countOf (answer parsed res p k) ≡ k
+pub counted : (res : Result ℕ) (p k : ℕ) → countOf (answer parsed res p k) ≡ k
 counted (ok a) p k = refl
 counted (no n x y) p k = refl
 
@@ -282,7 +282,14 @@ check-refused {e = e} c k f {n} {x} g =
     let w : some (n, x .0) ≡ e = sym (ap checkOf g) ∙ f in
     rw (← w) record {
       equal = declines stays;
-      frame = record { kinds-kept = refl; loads-kept = refl; below = λ i h. (refl, refl); above = λ i h. (refl, refl) };
+      frame = record {
+        grew = omega arith;
+        fits = λ h. h;
+        kinds-kept = refl;
+        loads-kept = refl;
+        below = λ i h. (refl, refl);
+        above = λ i h. (refl, refl);
+      };
       accepted = λ root cursor count d. let z : _≡_ {A = ℕ} 0 1 = cc in absurd (omega arith);
       refused = λ d n x y p j r v. let z : _≡_ {A = ℕ} 0 1 = cc in absurd (omega arith);
     }
@@ -305,6 +312,8 @@ module _ {rule : Row} {m : Rule Nodes ℕ} {q : Rule (Unit {0}) Tree} (D : Deman
     framed =
         let w = D .kept (nodes ns ls k) c z in
         rw (← left-columns) record {
+          grew = w .grew;
+          fits = λ _. w .fits;
           kinds-kept = w .kinds;
           loads-kept = w .loads ∙ w .kinds ∙ sym (z .even);
           below = w .before;

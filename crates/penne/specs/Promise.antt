@@ -28,6 +28,8 @@ countOf (Refused number start end cursor count) = count
 
 -- The frame: the columns s are o but for the nodes from the given count up to the replied one, which is that of s.
 pub record Frame (o s : Nodes) : Type 0 where
+  pub grew : o .count ≤ s .count
+  pub fits : o .count ≤ length (o .kinds) → s .count ≤ length (s .kinds)
   pub kinds-kept : length (s .kinds) ≡ length (o .kinds)
   pub loads-kept : length (s .loads) ≡ length (o .loads)
   pub below : (m : ℕ) → m < o .count → (kindAt s m ≡ kindAt o m) × (loadAt s m ≡ loadAt o m)

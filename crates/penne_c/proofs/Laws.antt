@@ -1,6 +1,6 @@
 -- What the functions of the library write, and what they did, by whether there were enough places.
 use Prim.Native.Nat.{ℕ, _≤_, _<_}
-use mathlib.Core.Bool.{Bool, true, false}
+use mathlib.Core.Bool.{true, false}
 use mathlib.Core.List.{List}
 use mathlib.Core.Path.{_≡_, refl, _∙_}
 use native.Mathlib.Omega.{arith}
@@ -9,7 +9,7 @@ use Rattle.codes.specs.declared.Parsed.{Parsed}
 use Rattle.codes.specs.declared.Parsed.the-variants.{Node, Refused}
 use Rattle.codes.specs.declared.NodeId.{NodeId}
 use Rattle.codes.specs.declared.TokenId.{TokenId}
-use Rattle.penne_c.specs.Reply.{Places, Accepted, Refused', placed, written, Given, Replied}
+use Rattle.penne_c.specs.Reply.{Places, Accepted, Refused', placed, written, Replied}
 
 pub six-placed :
     (rs : List ℕ) (case a b c d e : ℕ) →

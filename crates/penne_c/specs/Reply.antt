@@ -34,7 +34,8 @@ pub record Given (P : Parsed → List ℕ → List ℕ → Type 0) (rs ks' ls' r
   pub numbers : rs' ≡ written rs reply
 
 -- What a function of the library does that calls the entry with the promise P. Node kinds, node loads and the column of
--- the reply are ks, ls and rs before, and ks', ls' and rs' after. The result, done, says whether there were enough places.
+-- the reply are ks, ls and rs before, and ks', ls' and rs' after. The result, done, says whether there were enough
+-- places.
 pub record Replied (P : Parsed → List ℕ → List ℕ → Type 0) (ks ls rs : List ℕ) (done : Bool)
     (ks' ls' rs' : List ℕ) : Type 0 where
   pub given : Places ≤ length rs → (done ≡ true) × Given P rs ks' ls' rs'

@@ -1,7 +1,7 @@
-// The five entries of crate penne for programs in C and in Rust, which pass numbers and slices only. Each function is lent
-// a column `reply` and writes the entry's reply into its first six places: the case, then the five numbers of a refusal,
-// or the three of an acceptance and two zeros. Where the column has fewer places nothing is read or written, and the
-// result is false. Nothing is asked of the input, and nothing is allocated. include/penne.h declares them for C.
+// The five entries of crate penne for programs in C and in Rust, which pass numbers and slices only. Each function is
+// lent a column `reply` and writes the entry's reply into its first six places: the case, then the five numbers of a
+// refusal, or the three of an acceptance and two zeros. Where the column has fewer places nothing is read or written,
+// and the result is false. Nothing is asked of the input, and nothing is allocated.
 ghost use mathlib.Core.Path.{_≡_};
 ghost use Prim.Native.Nat.{_≤_};
 ghost use lib.ListN.{length};

@@ -1,0 +1,6 @@
+pub mod Filled
+pub mod Input
+pub mod Output
+pub mod Parses
+pub mod Puts
+pub mod Text

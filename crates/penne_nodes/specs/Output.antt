@@ -1,0 +1,23 @@
+-- What penne-nodes writes for each input. The entries' promises, and so the three demands, hold of the parse in it.
+use Prim.Native.Nat.{ℕ}
+use mathlib.Core.List.{List, _++_}
+use Rattle.codes.specs.Answer.{answer, parsed}
+use Rattle.codes.specs.declared.Parsed.{Parsed}
+use Rattle.penne.specs.Promise.{countOf}
+use Rattle.rules.specs.Codes.{pick}
+use Rattle.rules.specs.Reading.{Outcome}
+use Rattle.rules.specs.Columns.{Nodes}
+use Rattle.penne_nodes.specs.Input.{bad, asked, cursorOf}
+use Rattle.penne_nodes.specs.Text.{badFile, reply, lines}
+
+-- the reply, and the nodes in the columns s
+abbrev pub parse : Parsed → Nodes → List ℕ
+parse r s = reply r ++ lines s (countOf r)
+
+-- the text of an outcome
+abbrev pub shown : Outcome Nodes ℕ → List ℕ
+shown p = parse (answer parsed (p .result) (p .cursor) (p .state .count)) (p .state)
+
+-- the text for an input, with the node columns s
+unfoldable pub output : List ℕ → Nodes → List ℕ
+output bytes s = pick (bad bytes) badFile (shown (asked bytes (cursorOf bytes) s))

@@ -1,0 +1,68 @@
+"""The tables of penne_codes are those of crates/codes/src."""
+
+import os
+import re
+import unittest
+
+import penne_codes as codes
+from places import ROOT
+
+
+def source(name):
+    with open(os.path.join(ROOT, "crates/codes/src", name), encoding="utf-8") as file:
+        return file.read()
+
+
+def constants(name):
+    """The constants of a file, each with its number."""
+    found = re.findall(r"pub const (\w+): u(?:8|32) = (\d+);", source(name))
+    return [(constant, int(number)) for constant, number in found]
+
+
+def numbered(names):
+    return [(name, number) for number, name in enumerate(names)]
+
+
+class Codes(unittest.TestCase):
+    def test_tokens(self):
+        self.assertEqual(constants("base_token.rt"), numbered(name for name, _ in codes.BASE_TOKENS))
+
+    def test_value_types(self):
+        self.assertEqual(constants("value_type_keyword.rt"), numbered(name for name, _ in codes.VALUE_TYPES))
+
+    def test_nodes(self):
+        self.assertEqual(constants("parse_node.rt"), numbered(name for name, _, _ in codes.PARSE_NODES))
+
+    def test_operators(self):
+        self.assertEqual(constants("binary_op.rt"), numbered(codes.BINARY_OPS))
+        self.assertEqual(constants("unary_op.rt"), numbered(codes.UNARY_OPS))
+        self.assertEqual(constants("comparison_op.rt"), numbered(codes.COMPARISON_OPS))
+
+    def test_flags(self):
+        self.assertEqual(constants("declaration_flag.rt"), codes.FLAGS)
+
+    def test_refusals(self):
+        refusals = [(name, number) for number, (name, _) in codes.REFUSALS.items()]
+        self.assertEqual(constants("refusal_number.rt"), refusals)
+
+    def test_linked(self):
+        self.assertEqual(constants("part_code.rt"), [("Linked", codes.LINKED)])
+
+    def test_parts(self):
+        table = re.search(r"const PARTS: .*?\n\];", source("lib.rt"), re.DOTALL).group()
+        rows = re.findall(r"^    \[(.*?)\], // (\w+)$", table, re.MULTILINE)
+        read = lambda row: tuple(codes.LINKED if part == "Part::Linked" else int(part) for part in row.split(", "))
+        found = [(name, tuple(part for part in read(row) if part)) for row, name in rows]
+        self.assertEqual(found, [(name, parts) for name, _, parts in codes.PARSE_NODES])
+
+    def test_only_a_linked_part_reads_a_node(self):
+        for name, load, parts in codes.PARSE_NODES:
+            if codes.LINKED in parts:
+                self.assertEqual(load, codes.NODE, name)
+
+    def test_limits_in_the_sentences(self):
+        limits = dict(constants("limit.rt"))
+        self.assertIn(f"{limits['Tokens']:,}", codes.REFUSALS[1][1])
+        self.assertIn(f"{limits['Slots']:,}", codes.REFUSALS[31][1])
+        self.assertIn(f" {limits['Nesting']} ", codes.REFUSALS[34][1])
+        self.assertIn(f" {limits['Flags']}.", codes.REFUSALS[35][1])
