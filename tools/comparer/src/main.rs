@@ -28,14 +28,14 @@ struct Options {
 
 fn main() -> ExitCode {
     let arguments: Vec<String> = std::env::args().skip(1).collect();
-    if let [ask, line] = &arguments[..]
-        && ask == "--ask"
-    {
-        return show(line);
-    }
-    match options(&arguments) {
-        Some(options) => run(&options),
-        None => usage(),
+    let words: Vec<&str> = arguments.iter().map(String::as_str).collect();
+    match words[..] {
+        ["--help"] => {
+            println!("{USAGE}");
+            ExitCode::SUCCESS
+        }
+        ["--ask", line] => show(line),
+        _ => options(&words).map_or_else(usage, |options| run(&options)),
     }
 }
 
@@ -85,7 +85,7 @@ fn run(options: &Options) -> ExitCode {
     }
 }
 
-fn options(arguments: &[String]) -> Option<Options> {
+fn options(arguments: &[&str]) -> Option<Options> {
     let mut options = Options {
         seed: 1,
         rows: 100_000_000,
@@ -95,7 +95,7 @@ fn options(arguments: &[String]) -> Option<Options> {
     let mut arguments = arguments.iter();
     while let Some(argument) = arguments.next() {
         let value = arguments.next()?;
-        match argument.as_str() {
+        match *argument {
             "--seed" => options.seed = value.parse().ok()?,
             "--rows" => options.rows = value.parse().ok()?,
             "--threads" => options.threads = value.parse().ok().filter(|&n| n > 0)?,
