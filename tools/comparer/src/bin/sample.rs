@@ -1,5 +1,5 @@
-//! Writes a fixed sample of rows with the Rust's answers, for a program of the
-//! gate that replays them: `sample DIRECTORY`.
+//! Writes a fixed sample of rows with the Rust's answers, for the program
+//! entry_rows of the gate, which replays them: `sample DIRECTORY`.
 //!
 //! Rows are made at random, always the same ones. A row is kept if its answer
 //! shows something that none before it showed often enough: see `Seen`.
@@ -11,30 +11,27 @@ use std::{fs, io, path::Path};
 use comparer::deep::{self, Choice};
 use comparer::judge::Judge;
 use comparer::kind::*;
-use comparer::question::{Entry, Line, MOST_SLOTS, Question, Reply, Row};
+use comparer::question::{Entry, MOST_SLOTS, Question, Reply, Row};
 use comparer::random::Random;
 use comparer::rows::{Maker, spoil};
 
-/// What a replaying program must have room for.
+/// How large a row and its columns may be.
 struct Room {
     tokens: usize,
     slots: u32,
 }
 
-/// Most of the sample fits into small columns.
+/// Most of the sample is small.
 const SMALL: Room = Room {
     tokens: 64,
     slots: 300,
 };
 
-/// Refusals 24 and 34 need longer rows, 31 more slots than there may be.
-const LARGE: Room = Room {
-    tokens: 1_000,
-    slots: 131_076,
-};
-
 /// How many random rows are tried; far fewer are kept.
 const TRIED: u64 = 1_000_000;
+
+/// The line of the program's input and output after which the sample stands.
+const MARK: &str = "# A sample of the Rust's answers, as SAMPLE.md says\n";
 
 fn main() -> io::Result<()> {
     let Some(directory) = std::env::args().nth(1) else {
@@ -42,41 +39,45 @@ fn main() -> io::Result<()> {
         std::process::exit(2);
     };
     let directory = Path::new(&directory);
-    fs::create_dir_all(directory)?;
     oracle::with_large_stack(|| {
-        let mut small = Sample::new(SMALL);
+        let mut sample = Sample::new();
         for candidate in small_candidates() {
-            small.consider(&candidate);
+            assert!(SMALL.fits(candidate.row(), &candidate.question));
+            sample.consider(&candidate);
         }
-        small.write(directory, "draft")?;
-        let mut large = Sample::new(LARGE);
         for candidate in large_candidates() {
-            large.keep(&candidate);
+            sample.keep(&candidate);
         }
-        large.write(directory, "draft-wide")?;
-        let parts = [small.summary("draft"), large.summary("draft-wide")];
-        fs::write(
-            directory.join("README.md"),
-            INTRODUCTION.to_string() + &parts.concat(),
-        )
+        renew(&directory.join("stdin"), &sample.questions)?;
+        renew(&directory.join("stdout"), &sample.answers)?;
+        let text = INTRODUCTION.to_string() + &sample.summary();
+        fs::write(directory.join("SAMPLE.md"), text)
     })
+}
+
+/// The file with these lines after the mark, in the place of what was there.
+fn renew(path: &Path, lines: &str) -> io::Result<()> {
+    let text = fs::read_to_string(path)?;
+    let by_hand = text.split(MARK).next().expect("a first part");
+    fs::write(path, [by_hand, MARK, lines].concat())
 }
 
 const INTRODUCTION: &str = "\
 # The Rust's answers to a fixed sample of rows
 
-Made by `cd tools/comparer && cargo run --release --offline --bin sample -- ../../crates/oracle_rows`, which gives the
-same files each time. The program makes rows by the reading rules, damages every second one, and keeps a row if the
-answer to it shows something that the answers kept before it did not show often enough: a refusal number by an entry, the
-token found, the node appended last, two nodes that follow each other in an accepted parse, a value type, flags and word
-kinds. Shorter rows are preferred.
+The last part of `stdin` and `stdout` is made by
 
-Each line of `stdin-*` is a question as `oracle/README.md` describes it, and the same line of `stdout-*` the answer to it
-in that form. The answers are those of the Rust, run unchanged by `oracle/`; only where it panics (25, 33, 36), does not
-limit (34) or cannot be asked (1, 2, 3, 30, 31, 32, 35) they are document 01's.
+    cd tools/comparer && cargo run --release --offline --bin sample -- ../../crates/entry_rows
 
-In `draft` rows have at most 64 tokens and 300 slots, and the base is not above the slots. In `draft-wide` are the
-refusals that this leaves out, 24, 31, 32 and 34, with the rows on the other side of each limit.
+which gives the same lines each time. It makes rows by the reading rules, damages every second one, and keeps a row if
+the answer to it shows something that the answers kept before it did not show often enough: a refusal number by an entry,
+the token found, the node appended last, two nodes that follow each other in an accepted parse, a value type, flags and
+word kinds. Shorter rows are preferred. Rows for refusals 24, 31, 32 and 34, with those on the other side of each limit,
+stand at the end.
+
+The answers are those of the Rust, run unchanged by `oracle/`; only where it panics (25, 33, 36), does not limit (34) or
+cannot be asked (1, 2, 3, 30, 31, 32, 35) they are document 01's. The program of the gate needs no Rust: it asks the proved
+entries, and what it prints must be these lines.
 ";
 
 /// A row with a question.
@@ -272,7 +273,6 @@ impl Seen {
 }
 
 struct Sample {
-    room: Room,
     judge: Judge,
     seen: Seen,
     questions: String,
@@ -285,9 +285,8 @@ struct Sample {
 }
 
 impl Sample {
-    fn new(room: Room) -> Sample {
+    fn new() -> Sample {
         Sample {
-            room,
             judge: Judge::new(),
             seen: Seen::default(),
             questions: String::new(),
@@ -301,7 +300,6 @@ impl Sample {
 
     /// Keeps a row and its answer if the answer shows something new.
     fn consider(&mut self, candidate: &Candidate) {
-        assert!(self.room.fits(candidate.row(), &candidate.question));
         let reply = self.answer(candidate);
         if self
             .seen
@@ -323,29 +321,24 @@ impl Sample {
     }
 
     fn write_down(&mut self, question: Question, reply: Reply) {
-        let line = Line(self.judge.row(), question);
-        writeln!(self.questions, "{line}").expect("a string");
-        write!(self.answers, "{reply} :").expect("a string");
-        for &(kind, load) in self.judge.nodes() {
-            write!(self.answers, " {kind} {load}").expect("a string");
+        self.kept += 1;
+        let number = self.kept;
+        let asked = asked(self.judge.row(), &question);
+        writeln!(self.questions, "{number} # {asked}").expect("a string");
+        write!(self.answers, "{number}: {reply}, frame kept").expect("a string");
+        self.answers += &told(self.judge.nodes());
+        self.answers.push('\n');
+        for &(kind, _) in self.judge.nodes() {
             self.node_kinds[kind as usize] += 1;
         }
-        self.answers.push('\n');
-        self.kept += 1;
         self.counts[question.entry as usize][reply.number() as usize] += 1;
         self.based += u32::from(question.base > 0);
     }
 
-    fn write(&self, directory: &Path, name: &str) -> io::Result<()> {
-        fs::write(directory.join(format!("stdin-{name}")), &self.questions)?;
-        fs::write(directory.join(format!("stdout-{name}")), &self.answers)?;
-        Ok(())
-    }
-
     /// How many rows by answer and entry.
-    fn summary(&self, name: &str) -> String {
+    fn summary(&self) -> String {
         let mut text = format!(
-            "\n`{name}`: {} rows, {} of them with a base above 0. The nodes are of {} kinds.\n\n",
+            "\nThere are {} rows, {} of them with a node count above 0. The nodes are of {} kinds.\n\n",
             self.kept,
             self.based,
             self.node_kinds.iter().filter(|&&count| count > 0).count(),
@@ -365,6 +358,76 @@ impl Sample {
         }
         text
     }
+}
+
+/// The program prints so many nodes one by one, and of more their number and
+/// a checksum, as crates/entry_rows/src/columns.rt says.
+const PRINTED: usize = 512;
+
+fn told(nodes: &[(u8, u32)]) -> String {
+    if nodes.len() <= PRINTED {
+        let each = |(kind, load): &(u8, u32)| format!(", {kind} {load}");
+        return nodes.iter().map(each).collect();
+    }
+    let mix = |sum: u64, number: u64| (sum * 65_537 + number) % 4_294_967_291;
+    let checksum = nodes.iter().fold(0, |sum, &(kind, load)| {
+        mix(mix(sum, kind.into()), load.into())
+    });
+    format!(", nodes {}, checksum {checksum}", nodes.len())
+}
+
+/// What the program takes where a setting is left out.
+const USUAL_SLOTS: u32 = 64;
+const USUAL_TYPE: u8 = 4;
+
+/// A question and its row as crates/entry_rows/src/question.rt has them.
+fn asked(row: Row<'_>, question: &Question) -> String {
+    let mut text = match question.entry {
+        Entry::Expression => "expression",
+        Entry::Type => "type",
+        Entry::Constant => "constant",
+        Entry::Struct => "struct",
+        Entry::Word => "word",
+    }
+    .to_string();
+    let settings = [
+        ("cursor", question.cursor, 0),
+        ("count", question.base, 0),
+        ("start", question.start, 0),
+        ("flags", question.flags, 0),
+        ("kind", question.word_kind.into(), WORD8.into()),
+        ("slots", question.slots, USUAL_SLOTS),
+        ("loads", question.load_slots, question.slots),
+        ("types", row.types.len() as u32, row.kinds.len() as u32),
+    ];
+    for (name, value, usual) in settings {
+        if value != usual {
+            write!(text, " {name} {value}").expect("a string");
+        }
+    }
+    text + " :" + &words(row)
+}
+
+/// The tokens, each with how often it stands there in turn.
+fn words(row: Row<'_>) -> String {
+    let types = row
+        .types
+        .iter()
+        .copied()
+        .chain(std::iter::repeat(USUAL_TYPE));
+    let tokens: Vec<(u8, u8)> = row.kinds.iter().copied().zip(types).collect();
+    let mut text = String::new();
+    for run in tokens.chunk_by(|a, b| a == b) {
+        let (kind, value_type) = run[0];
+        write!(text, " {kind}").expect("a string");
+        if value_type != USUAL_TYPE {
+            write!(text, "/{value_type}").expect("a string");
+        }
+        if run.len() > 1 {
+            write!(text, "*{}", run.len()).expect("a string");
+        }
+    }
+    text
 }
 
 /// What an answer shows, each with how often it is wanted.
