@@ -8,7 +8,7 @@ use Prim.Native.Nat.{ℕ, suc, _+_, _-_, _≤_, _<_}
 use native.Mathlib.Omega.{arith}
 use lib.ListN.{length}
 use lib.Dec.{eqb, ltb}
-use borrow.Author.Tests.{ltb-true, ltb-false, eqb-true, lt-ltb, le-ltb, eq-eqb, ne-eqb}
+use borrow.Author.Tests.{ltb-true, ltb-false, eqb-true, eqb-false, lt-ltb, le-ltb, eq-eqb, ne-eqb}
 use Rattle.codes.specs.declared.Parsed.{Parsed}
 use Rattle.codes.specs.declared.Parsed.the-variants.{Node, Refused}
 use Rattle.codes.specs.declared.NodeId.{NodeId}
@@ -21,7 +21,7 @@ use Rattle.penne.specs.Answer.{checkOf}
 use Rattle.penne.specs.Checks.{Check, check, orElse, failing, or, unequal, bad, badToken, lastCheck, rowCheck}
 use Rattle.penne.specs.Checks.{placeCheck, slotsCheck, flagsCheck, wordCheck, inputCheck, declarationCheck}
 use Rattle.penne.specs.Checks.{wordDeclarationCheck, checked}
-use Rattle.penne.specs.Promise.{countOf, Frame, Accepted, Refuses, Promise}
+use Rattle.penne.specs.Promise.{countOf, cursorOf, Frame, Accepted, Refuses, Promise}
 use Rattle.penne.specs.Promise.{Expression, Type', Constant, Struct, Word}
 use Rattle.rules.specs.Codes.{pick}
 use Rattle.rules.specs.Codes.BaseToken as BaseToken
@@ -215,6 +215,16 @@ row-sized tk tv e =
     let (a, b) = neither unlike (or (eqb (length tk) 0) many) (passed _ _ _ (both-passed _ _ e .0)) in
     (same _ _ a, ltb-false _ _ (neither (eqb (length tk) 0) many b .1))
 
+-- and its last token
+row-closed : (tk tv : List ℕ) → rowCheck (row tk tv) ≡ none → Demand.Closed (row tk tv)
+row-closed tk tv e =
+    let (a, b) = both-passed _ _ e in
+    let many = ltb Limit.Tokens (length tk) in
+    let (_, d) = neither (unequal (length tv) (length tk)) (or (eqb (length tk) 0) many) (passed _ _ _ a) in
+    let z : length tk ≢ 0 = eqb-false (length tk) 0 (neither (eqb (length tk) 0) many d .0) in
+    let (f, _) = both-passed _ _ (both-passed _ _ b .1) in
+    record { last = length tk - 1; size = omega arith; kind = same _ _ (passed _ _ _ f) }
+
 place-inside : (tk tv : List ℕ) (c : ℕ) → placeCheck (row tk tv) c ≡ none → c < length tk
 place-inside tk tv c e = ltb-true _ _ (negation (ltb c (length tk)) (passed _ _ _ e))
 
@@ -225,18 +235,27 @@ slots-sized slots loads k e =
     let (f, g) = neither (unequal loads slots) (ltb Limit.Slots slots) (passed _ _ _ a) in
     (same _ _ f, ltb-false _ _ g, ltb-false _ _ (passed _ _ _ (both-passed _ _ b .0)))
 
--- what every reader takes for granted holds where the checks passed
+-- What holds where the checks passed: what every reader takes for granted, and more of the row and the cursor.
+record Entered (tk tv ns ls : List ℕ) (c k : ℕ) : Type 0 where
+  sized : Sized tk tv ns ls c k
+  closed : Demand.Closed (row tk tv)
+  inside : c < length tk
+
 module _ {tk tv ns ls : List ℕ} {c k : ℕ} where
   all-sized :
       rowCheck (row tk tv) ≡ none → placeCheck (row tk tv) c ≡ none → slotsCheck (length ns) (length ls) k ≡ none →
-      Sized tk tv ns ls c k
+      Entered tk tv ns ls c k
   all-sized r p s =
       let (a, b) = row-sized tk tv r in
       let d = place-inside tk tv c p in
       let (e, f, g) = slots-sized (length ns) (length ls) k s in
-      record { types = a; tokens = b; at = omega arith; loads = e; slots = f; used = g }
+      record {
+        sized = record { types = a; tokens = b; at = omega arith; loads = e; slots = f; used = g };
+        closed = row-closed tk tv r;
+        inside = d;
+      }
 
-  input-passed : inputCheck (row tk tv) c (length ns) (length ls) k ≡ none → Sized tk tv ns ls c k
+  input-passed : inputCheck (row tk tv) c (length ns) (length ls) k ≡ none → Entered tk tv ns ls c k
   input-passed e =
       let (r, s) = both-passed _ _ e in
       let (p, t) = both-passed _ _ s in
@@ -244,7 +263,7 @@ module _ {tk tv ns ls : List ℕ} {c k : ℕ} where
 
   declaration-passed :
       (start flags : ℕ) → declarationCheck (row tk tv) c (length ns) (length ls) k start flags ≡ none →
-      Sized tk tv ns ls c k
+      Entered tk tv ns ls c k
   declaration-passed start flags e =
       let (r, s) = both-passed _ _ e in
       let (p, t) = both-passed _ _ s in
@@ -252,20 +271,34 @@ module _ {tk tv ns ls : List ℕ} {c k : ℕ} where
       all-sized r p (both-passed _ _ u .0)
 
   module _ {t : Checked} (g : t ≡ Passed) where
+    input-entered : checkOf t ≡ inputCheck (row tk tv) c (length ns) (length ls) k → Entered tk tv ns ls c k
+    input-entered f = input-passed (sym f ∙ ap checkOf g)
+
+    declaration-entered :
+        (start flags : ℕ) → checkOf t ≡ declarationCheck (row tk tv) c (length ns) (length ls) k start flags →
+        Entered tk tv ns ls c k
+    declaration-entered start flags f = declaration-passed start flags (sym f ∙ ap checkOf g)
+
+    word-entered :
+        (start flags kind : ℕ) →
+        checkOf t ≡ wordDeclarationCheck (row tk tv) c (length ns) (length ls) k start flags kind →
+        Entered tk tv ns ls c k
+    word-entered start flags kind f =
+        declaration-passed start flags (both-passed _ _ (sym f ∙ ap checkOf g) .0)
+
     pub input-sized : checkOf t ≡ inputCheck (row tk tv) c (length ns) (length ls) k → Sized tk tv ns ls c k
-    input-sized f = input-passed (sym f ∙ ap checkOf g)
+    input-sized f = input-entered f .sized
 
     pub declaration-sized :
         (start flags : ℕ) → checkOf t ≡ declarationCheck (row tk tv) c (length ns) (length ls) k start flags →
         Sized tk tv ns ls c k
-    declaration-sized start flags f = declaration-passed start flags (sym f ∙ ap checkOf g)
+    declaration-sized start flags f = declaration-entered start flags f .sized
 
     pub word-sized :
         (start flags kind : ℕ) →
         checkOf t ≡ wordDeclarationCheck (row tk tv) c (length ns) (length ls) k start flags kind →
         Sized tk tv ns ls c k
-    word-sized start flags kind f =
-        declaration-passed start flags (both-passed _ _ (sym f ∙ ap checkOf g) .0)
+    word-sized start flags kind f = word-entered start flags kind f .sized
 
 -- the count of a reply is that of the columns
 pub counted : (res : Result ℕ) (p k : ℕ) → countOf (answer parsed res p k) ≡ k
@@ -274,9 +307,9 @@ counted (no n x y) p k = refl
 
 -- an entry's promise where its check refused
 pub check-refused :
-    {m : Rule Nodes ℕ} {q : Rule (Unit {0}) Tree} {e : Check} (c k : ℕ) {ns ls : List ℕ} {t : Checked} →
+    {tokens : ℕ} {m : Rule Nodes ℕ} {q : Rule (Unit {0}) Tree} {e : Check} (c k : ℕ) {ns ls : List ℕ} {t : Checked} →
     checkOf t ≡ e → {n : ℕ} {x : TokenId} → t ≡ Failed n x →
-    Promise e m q c (nodes ns ls k) (Refused n x x (token c) k) ns ls
+    Promise tokens e m q c (nodes ns ls k) (Refused n x x (token c) k) ns ls
 unfolding checked
 check-refused {e = e} c k f {n} {x} g =
     let w : some (n, x .0) ≡ e = sym (ap checkOf g) ∙ f in
@@ -292,15 +325,16 @@ check-refused {e = e} c k f {n} {x} g =
       };
       accepted = λ root cursor count d. let z : _≡_ {A = ℕ} 0 1 = cc in absurd (omega arith);
       refused = λ d n x y p j r v. let z : _≡_ {A = ℕ} 0 1 = cc in absurd (omega arith);
+      within = λ d. let z : _≡_ {A = ℕ} 0 1 = cc in absurd (omega arith);
     }
 
 -- and where it passed
-module _ {rule : Row} {m : Rule Nodes ℕ} {q : Rule (Unit {0}) Tree} (D : Demand.Demand rule m q) (tk tv : List ℕ)
+module _ {tk tv : List ℕ} {m : Rule Nodes ℕ} {q : Rule (Unit {0}) Tree} (D : Demand.Demand (row tk tv) m q)
     (c k : ℕ) {e : Check} {ns ls : List ℕ} where
-  module _ {t : Checked} (f : checkOf t ≡ e) (g : t ≡ Passed) (y : Sized tk tv ns ls c k) {r : Parsed}
+  module _ {t : Checked} (f : checkOf t ≡ e) (g : t ≡ Passed) (y : Entered tk tv ns ls c k) {r : Parsed}
       {ks' ls' : List ℕ} (d : Gives m c (nodes ns ls k) r ks' ls') where
     z : Demand.Sized (nodes ns ls k)
-    z = record { even = y .loads; room = y .used }
+    z = record { even = y .sized .loads; room = y .sized .used }
 
     left-columns : m c (nodes ns ls k) .state ≡ nodes ks' ls' (countOf r)
     left-columns =
@@ -322,7 +356,7 @@ module _ {rule : Row} {m : Rule Nodes ℕ} {q : Rule (Unit {0}) Tree} (D : Deman
 
     accepts :
         (root : NodeId) (cursor : TokenId) (count : ℕ) → r ≡ Node root cursor count →
-        Accepted q c k (nodes ks' ls' count) (root .0) (cursor .0)
+        Accepted (length tk) q c k (nodes ks' ls' count) (root .0) (cursor .0)
     accepts root cursor count h =
         let o = came-read plain-parsed d h .same in
         let i : m c (nodes ns ls k) .result ≡ ok (root .0) = ap (λ (p : Outcome Nodes ℕ). p .result) o in
@@ -335,7 +369,18 @@ module _ {rule : Row} {m : Rule Nodes ℕ} {q : Rule (Unit {0}) Tree} (D : Deman
           taken = a .cursor ∙ j;
           whole = subst (λ (s : Nodes). Whole s k (root .0) (a .tree)) l (a .whole);
           last = a .last ∙ ap (λ (s : Nodes). s .count) l;
+          inside =
+              subst (λ (n : ℕ). n < length tk) j
+              (D .before-end (nodes ns ls k) c (root .0) z (y .closed) (y .inside) i);
         }
+
+    stops : (res : Result ℕ) → m c (nodes ns ls k) .result ≡ res → cursorOf r ≤ length tk
+    stops (ok root) i =
+        let b = D .before-end (nodes ns ls k) c root z (y .closed) (y .inside) i in
+        subst (λ (p : Parsed). cursorOf p ≤ length tk) (sym (d .reply)) (rw i (omega arith))
+    stops (no n x w) i =
+        let b = D .at-end (nodes ns ls k) c n x w z (y .closed) (y .inside) i in
+        subst (λ (p : Parsed). cursorOf p ≤ length tk) (sym (d .reply)) (rw i b)
 
     refuses :
         (n : ℕ) (x y p : TokenId) (j : ℕ) → r ≡ Refused n x y p j → n ≢ Refusal.NoSlot →
@@ -346,11 +391,17 @@ module _ {rule : Row} {m : Rule Nodes ℕ} {q : Rule (Unit {0}) Tree} (D : Deman
         let a = D .refused (nodes ns ls k) c n (x .0) (y .0) z i v in
         record { refused = a .0; at = a .1 ∙ ap (λ (p : Outcome Nodes ℕ). p .cursor) o }
 
-    rule-followed : Promise e m q c (nodes ns ls k) r ks' ls'
+    rule-followed : Promise (length tk) e m q c (nodes ns ls k) r ks' ls'
     unfolding checked
     rule-followed =
         let w : none ≡ e = sym (ap checkOf g) ∙ f in
-        rw (← w) record { equal = d; frame = framed; accepted = accepts; refused = λ _. refuses }
+        rw (← w) record {
+          equal = d;
+          frame = framed;
+          accepted = accepts;
+          refused = λ _. refuses;
+          within = λ _. stops (m c (nodes ns ls k) .result) refl;
+        }
 
 -- the promise of each entry, where its check passed and it parsed
 module _ (tk tv : List ℕ) (c k : ℕ) {ns ls : List ℕ} {t : Checked} (g : t ≡ Passed) {r : Parsed} {ks' ls' :
@@ -359,12 +410,12 @@ module _ (tk tv : List ℕ) (c k : ℕ) {ns ls : List ℕ} {t : Checked} (g : t 
     pub expression-followed :
         Gives (expression columns (row tk tv) Limit.Nesting) c (nodes ns ls k) r ks' ls' →
         Expression (row tk tv) c (nodes ns ls k) r ks' ls'
-    expression-followed d = rule-followed (expressions (row tk tv) Limit.Nesting) tk tv c k f g (input-sized g f) d
+    expression-followed d = rule-followed (expressions (row tk tv) Limit.Nesting) c k f g (input-entered g f) d
 
     pub type-followed :
         Gives (type columns (row tk tv) Limit.Nesting) c (nodes ns ls k) r ks' ls' →
         Type' (row tk tv) c (nodes ns ls k) r ks' ls'
-    type-followed d = rule-followed (types (row tk tv) Limit.Nesting) tk tv c k f g (input-sized g f) d
+    type-followed d = rule-followed (types (row tk tv) Limit.Nesting) c k f g (input-entered g f) d
 
   module _ (start flags : ℕ)
       (f : checkOf t ≡ declarationCheck (row tk tv) c (length ns) (length ls) k start flags) where
@@ -372,15 +423,15 @@ module _ (tk tv : List ℕ) (c k : ℕ) {ns ls : List ℕ} {t : Checked} (g : t 
         Gives (constant columns (row tk tv) Limit.Nesting start flags) c (nodes ns ls k) r ks' ls' →
         Constant (row tk tv) c (nodes ns ls k) start flags r ks' ls'
     constant-followed d =
-        rule-followed (constants (row tk tv) Limit.Nesting start flags) tk tv c k f g
-        (declaration-sized g start flags f) d
+        rule-followed (constants (row tk tv) Limit.Nesting start flags) c k f g
+        (declaration-entered g start flags f) d
 
     pub struct-followed :
         Gives (struct columns (row tk tv) Limit.Nesting start flags) c (nodes ns ls k) r ks' ls' →
         Struct (row tk tv) c (nodes ns ls k) start flags r ks' ls'
     struct-followed d =
-        rule-followed (structs (row tk tv) Limit.Nesting start flags) tk tv c k f g
-        (declaration-sized g start flags f) d
+        rule-followed (structs (row tk tv) Limit.Nesting start flags) c k f g
+        (declaration-entered g start flags f) d
 
   pub word-followed :
       (start flags kind : ℕ) →
@@ -388,4 +439,4 @@ module _ (tk tv : List ℕ) (c k : ℕ) {ns ls : List ℕ} {t : Checked} (g : t 
       Gives (word columns (row tk tv) Limit.Nesting start flags kind) c (nodes ns ls k) r ks' ls' →
       Word (row tk tv) c (nodes ns ls k) start flags kind r ks' ls'
   word-followed start flags kind f d =
-      rule-followed (words (row tk tv) Limit.Nesting start flags kind) tk tv c k f g (word-sized g start flags kind f) d
+      rule-followed (words (row tk tv) Limit.Nesting start flags kind) c k f g (word-entered g start flags kind f) d

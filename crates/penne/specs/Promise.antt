@@ -26,6 +26,11 @@ abbrev pub countOf : Parsed → ℕ
 countOf (Node root cursor count) = count
 countOf (Refused number start end cursor count) = count
 
+-- and its cursor
+abbrev pub cursorOf : Parsed → ℕ
+cursorOf (Node root cursor count) = cursor .0
+cursorOf (Refused number start end cursor count) = cursor .0
+
 -- The frame: the columns s are o but for the nodes from the given count up to the replied one, which is that of s.
 pub record Frame (o s : Nodes) : Type 0 where
   pub grew : o .count ≤ s .count
@@ -35,61 +40,67 @@ pub record Frame (o s : Nodes) : Type 0 where
   pub below : (m : ℕ) → m < o .count → (kindAt s m ≡ kindAt o m) × (loadAt s m ≡ loadAt o m)
   pub above : (m : ℕ) → s .count ≤ m → (kindAt s m ≡ kindAt o m) × (loadAt s m ≡ loadAt o m)
 
--- Demand 3 of an accepted parse: the rule q with trees, from the given cursor c, reads the tree that stands along the
--- ways from the root in the columns s at exit, and takes the same tokens.
-pub record Accepted (q : Rule (Unit {0}) Tree) (c given : ℕ) (s : Nodes) (root cursor : ℕ) : Type 0 where
+-- Demand 3 of an accepted parse in a row of so many tokens: the rule q with trees, from the given cursor c, reads the
+-- tree that stands along the ways from the root in the columns s at exit, and takes the same tokens.
+pub record Accepted (tokens : ℕ) (q : Rule (Unit {0}) Tree) (c given : ℕ) (s : Nodes) (root cursor : ℕ) : Type 0 where
   pub tree : Tree
   pub read : q c tt .result ≡ ok tree
   pub taken : q c tt .cursor ≡ cursor
   pub whole : Whole s given root tree
   pub last : root + 1 ≡ s .count
+  -- "Cursor equals the token count only in a refusal."
+  pub inside : cursor < tokens
 
 -- The rule q with trees refuses with the same number, start, end and cursor.
 pub record Refuses (q : Rule (Unit {0}) Tree) (c number start end cursor : ℕ) : Type 0 where
   pub refused : q c tt .result ≡ no number start end
   pub at : q c tt .cursor ≡ cursor
 
--- An entry with the check e, the rule m with columns and q with trees replies r from the cursor c and the columns o, and
--- leaves the columns ks (kinds) and ls (loads).
-pub record Promise (e : Check) (m : Rule Nodes ℕ) (q : Rule (Unit {0}) Tree) (c : ℕ) (o : Nodes) (r : Parsed)
-    (ks ls : List ℕ) : Type 0 where
+-- An entry with the check e, the rule m with columns and q with trees replies r from the cursor c in a row of so many
+-- tokens and the columns o, and leaves the columns ks (kinds) and ls (loads).
+pub record Promise (tokens : ℕ) (e : Check) (m : Rule Nodes ℕ) (q : Rule (Unit {0}) Tree) (c : ℕ) (o : Nodes)
+    (r : Parsed) (ks ls : List ℕ) : Type 0 where
   -- the reply and every slot equal the definition
   pub equal : Gives (checked e m) c o r ks ls
   pub frame : Frame o (nodes ks ls (countOf r))
   pub accepted :
       (root : NodeId) (cursor : TokenId) (count : ℕ) → r ≡ Node root cursor count →
-      Accepted q c (o .count) (nodes ks ls count) (root .0) (cursor .0)
+      Accepted tokens q c (o .count) (nodes ks ls count) (root .0) (cursor .0)
   -- a refusal while parsing, unless the slots are used up
   pub refused :
       e ≡ none → (number : ℕ) (start end cursor : TokenId) (count : ℕ) → r ≡ Refused number start end cursor count →
       number ≢ Refusal.NoSlot → Refuses q c number (start .0) (end .0) (cursor .0)
+  -- after a parse the cursor is at most the token count
+  pub within : e ≡ none → cursorOf r ≤ tokens
 
 module _ (row : Row) (c : ℕ) (o : Nodes) where
-  -- the slots of both columns and the count, as the checks take them
-  abbrev of : (ℕ → ℕ → ℕ → Check) → Check
-  of f = f (length (o .kinds)) (length (o .loads)) (o .count)
+  -- An entry over the row, from the cursor c and the columns o; its check takes the slots of both columns and the count.
+  abbrev entry :
+      (ℕ → ℕ → ℕ → Check) → Rule Nodes ℕ → Rule (Unit {0}) Tree → Parsed → List ℕ → List ℕ → Type 0
+  entry e m q = Promise (length (row .kinds)) (e (length (o .kinds)) (length (o .loads)) (o .count)) m q c o
 
   abbrev pub Expression : Parsed → List ℕ → List ℕ → Type 0
   Expression =
-      Promise (of (inputCheck row c)) (expression columns row Limit.Nesting) (expression trees row Limit.Nesting) c o
+      entry (inputCheck row c) (expression columns row Limit.Nesting) (expression trees row Limit.Nesting)
 
   abbrev pub Type' : Parsed → List ℕ → List ℕ → Type 0
-  Type' = Promise (of (inputCheck row c)) (type columns row Limit.Nesting) (type trees row Limit.Nesting) c o
+  Type' = entry (inputCheck row c) (type columns row Limit.Nesting) (type trees row Limit.Nesting)
 
-  abbrev pub Constant : ℕ → ℕ → Parsed → List ℕ → List ℕ → Type 0
-  Constant start flags =
-      Promise (of (λ slots loads count. declarationCheck row c slots loads count start flags))
-      (constant columns row Limit.Nesting start flags)
-      (constant trees row Limit.Nesting start flags) c o
+  module _ (start flags : ℕ) where
+    abbrev pub Constant : Parsed → List ℕ → List ℕ → Type 0
+    Constant =
+        entry (λ slots loads count. declarationCheck row c slots loads count start flags)
+        (constant columns row Limit.Nesting start flags)
+        (constant trees row Limit.Nesting start flags)
 
-  abbrev pub Struct : ℕ → ℕ → Parsed → List ℕ → List ℕ → Type 0
-  Struct start flags =
-      Promise (of (λ slots loads count. declarationCheck row c slots loads count start flags))
-      (struct columns row Limit.Nesting start flags)
-      (struct trees row Limit.Nesting start flags) c o
+    abbrev pub Struct : Parsed → List ℕ → List ℕ → Type 0
+    Struct =
+        entry (λ slots loads count. declarationCheck row c slots loads count start flags)
+        (struct columns row Limit.Nesting start flags)
+        (struct trees row Limit.Nesting start flags)
 
-  abbrev pub Word : ℕ → ℕ → ℕ → Parsed → List ℕ → List ℕ → Type 0
-  Word start flags kind =
-      Promise (of (λ slots loads count. wordDeclarationCheck row c slots loads count start flags kind))
-      (word columns row Limit.Nesting start flags kind)
-      (word trees row Limit.Nesting start flags kind) c o
+    abbrev pub Word : ℕ → Parsed → List ℕ → List ℕ → Type 0
+    Word kind =
+        entry (λ slots loads count. wordDeclarationCheck row c slots loads count start flags kind)
+        (word columns row Limit.Nesting start flags kind)
+        (word trees row Limit.Nesting start flags kind)

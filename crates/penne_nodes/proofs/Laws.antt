@@ -103,7 +103,7 @@ module _ (bytes : List ℕ) (e : false ≡ bad bytes) where
 module _ {ks ls : List ℕ} (u : length ks ≡ Slots) (v : length ls ≡ Slots) {r : Parsed} {ks' ls' : List ℕ} where
   sized :
       (R : Row) (c : ℕ) (m : Rule Nodes ℕ) (q : Rule (Unit {0}) Tree) →
-      Promise (inputCheck R c (length ks) (length ls) 0) m q c (nodes ks ls 0) r ks' ls' →
+      Promise (length (R .kinds)) (inputCheck R c (length ks) (length ls) 0) m q c (nodes ks ls 0) r ks' ls' →
       Parses (checked (inputCheck R c Slots Slots 0) m) c ks ls r ks' ls'
   sized R c m q p =
       let G : ℕ → ℕ → Type 0 = λ a b. Gives (checked (inputCheck R c a b 0) m) c (nodes ks ls 0) r ks' ls' in

@@ -2,7 +2,6 @@ use Rattle.penne.proofs.Laws.{bad-kind, bad-type, good-token, good-toke
 use lib.ListN.{length}
 use Rattle.codes.specs.Answer.{row}
 use Rattle.penne.specs.Checks.{badToken}
-use Rattle.rules.proofs.Demand.{types}
 use mathlib.Core.Path.{_≡_}
 use Prim.Native.Nat.{_≤_, _-_}
 use borrow.Author.Needs.{needs}
