@@ -3,12 +3,37 @@ use Prim.Native.Nat.{ℕ, suc, _+_, _-_, _≤_, _<_}
 use native.Mathlib.Omega.{arith}
 use mathlib.Core.Bool.{Bool, true, false, not, true≢false}
 use mathlib.Core.List.{List}
+use mathlib.Core.Logic.{_≢_}
 use mathlib.Core.Path.{_≡_, refl, sym, _∙_}
-use lib.ListN.{length, getD}
+use lib.ListN.{length, getD, set}
+use lib.Seq.{getD-set-same, getD-set-other}
 use lib.Dec.{eqb, ltb}
-use borrow.Author.Tests.{lt-ltb, le-ltb}
+use borrow.Author.Tests.{lt-ltb, le-ltb, eqb-true, eqb-false}
 use Rattle.rules.specs.Codes.{pick}
-use Rattle.entry_rows.specs.Kept.{keptSlot, keptFrom}
+use Rattle.entry_rows.specs.Kept.{Filled, keptSlot, keptFrom}
+
+-- the slots that were filled
+module _ (old : ℕ → ℕ) where
+  pub none-filled : (column : List ℕ) → Filled old column 0
+  none-filled column = record { each = λ k h. absurd (omega arith) }
+
+  pub one-filled :
+      {column : List ℕ} {slot a : ℕ} → slot < length column → a ≡ old slot → Filled old column slot →
+      Filled old (set column slot a) (slot + 1)
+  one-filled {column} {slot} {a} h e f = record { each = λ k b. by-place k b (eqb k slot) refl }
+    where
+      by-place : (k : ℕ) → k < slot + 1 → (here : Bool) → eqb k slot ≡ here → getD (set column slot a) k 0 ≡ old k
+      by-place k b true q =
+          let w : k ≡ slot = eqb-true k slot q in
+          rw w (getD-set-same column slot a 0 h ∙ e)
+      by-place k b false q =
+          let w : k ≢ slot = eqb-false k slot q in
+          getD-set-other column slot k a 0 w ∙ f .each k (omega arith)
+
+  pub all-filled :
+      {column : List ℕ} {slot n : ℕ} → length column ≤ slot → length column ≡ n → Filled old column slot →
+      Filled old column n
+  all-filled h e f = record { each = λ k b. f .each k (omega arith) }
 
 pub slot-same : (same : Bool) (slot given replied : ℕ) → same ≡ true → true ≡ keptSlot same slot given replied
 slot-same same slot given replied e = rw e refl

@@ -1,7 +1,8 @@
 -- The frame of a call as the program looks at it: what a slot holds before it, and which slots must hold it after.
-use Prim.Native.Nat.{ℕ, zero, suc, _+_, _%_}
+use Prim.Native.Nat.{ℕ, zero, suc, _+_, _%_, _<_}
 use mathlib.Core.Bool.{Bool, true, false}
 use mathlib.Core.List.{List}
+use mathlib.Core.Path.{_≡_}
 use lib.ListN.{getD}
 use lib.Dec.{eqb, ltb}
 use Rattle.rules.specs.Codes.{pick}
@@ -12,6 +13,10 @@ oldKind slot = 128 + slot % 128
 
 abbrev pub oldLoad : ℕ → ℕ
 oldLoad slot = 4000000000 + slot
+
+-- the first so many slots of a column hold it
+pub record Filled (old : ℕ → ℕ) (column : List ℕ) (slots : ℕ) : Type 0 where
+  pub each : (slot : ℕ) → slot < slots → getD column slot 0 ≡ old slot
 
 -- a slot that holds what it held before, or one from the given count up to the replied one
 abbrev pub keptSlot : Bool → ℕ → ℕ → ℕ → Bool

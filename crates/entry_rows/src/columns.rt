@@ -3,7 +3,7 @@
 ghost use Prim.Native.Nat.{_≤_, _<_};
 ghost use mathlib.Core.Path.{_≡_};
 ghost use lib.ListN.{length};
-ghost use Rattle.entry_rows.specs.Kept.{oldKind, oldLoad, keptSlot, keptFrom};
+ghost use Rattle.entry_rows.specs.Kept.{oldKind, oldLoad, Filled, keptSlot, keptFrom};
 ghost use Rattle.entry_rows.specs.Most as Most;
 use libc::STDOUT_FILENO;
 
@@ -42,8 +42,10 @@ fn old_load(slot: usize) -> u32
     FIRST_LOAD + slot as u32
 }
 
+// Every slot of the kinds holds what it holds before a call.
 pub fn fill_kinds(column: &mut [u8])
     ensures { λ r. ⌜ length (now (column .exit)) ≡ length (now (column .entry)) ⌝ }
+    ensures { λ r. ⌜ Filled oldKind (now (column .exit)) (length (now (column .entry))) ⌝ }
 {
     let mut slot: usize = 0;
     while slot < column.len() {
@@ -52,9 +54,11 @@ pub fn fill_kinds(column: &mut [u8])
     }
 }
 
+// Every slot of the loads holds what it holds before a call.
 pub fn fill_loads(column: &mut [u32])
     requires { ⌜ length (now column) ≤ Most.Slots ⌝ }
     ensures { λ r. ⌜ length (now (column .exit)) ≡ length (now (column .entry)) ⌝ }
+    ensures { λ r. ⌜ Filled oldLoad (now (column .exit)) (length (now (column .entry))) ⌝ }
 {
     let mut slot: usize = 0;
     while slot < column.len() {
