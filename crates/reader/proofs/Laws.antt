@@ -1,18 +1,28 @@
 -- The reader's answers from those of crate tokens.
-use mathlib.Core.Path.{refl}
+use mathlib.Core.Path.{_≡_, refl, ap, subst}
+use mathlib.Core.Bool.{Bool, true, false}
+use mathlib.Core.List.{List}
 use Prim.Native.Nat.{ℕ, _+_, _≤_, _<_, _^_}
 use native.Mathlib.Omega.{arith}
+use lib.Dec.{eqb}
+use Rattle.rules.specs.Codes.{pick}
+use Rattle.rules.specs.Codes.BaseToken as BaseToken
 use Rattle.rules.specs.Codes.Limit as Most
-use Rattle.rules.specs.Reading.{consume}
+use Rattle.rules.specs.Reading.{ok, take, consume, optional}
 use Rattle.codes.specs.Answer.{Quiet, token}
+use Rattle.codes.proofs.Onto.{reads, shows}
 use Rattle.tokens.specs.declared.Consumed.{Consumed}
-use Rattle.tokens.specs.Answer.{consumed, consuming}
+use Rattle.tokens.specs.Answer.{kindIn, consumed, consuming, Taking}
+use Rattle.tokens.proofs.Laws.{optioned}
 use Rattle.reader.specs.declared.Tokens.{Tokens}
-use Rattle.reader.specs.Answer.{moved, kindsOf, place, Consumes}
+use Rattle.reader.specs.Answer.{moved, kindsOf, place, ending, Takes, Tries, Consumes}
 
 -- the next token has a number
 pub next-fits : {c : ℕ} → c ≤ Most.Tokens + 1 → c + 1 < 2 ^ 32
 next-fits h = omega arith
+
+pub more : {c : ℕ} → c ≤ Most.Tokens → c ≤ Most.Tokens + 1
+more h = omega arith
 
 -- the token is taken, of the kind expected or not
 pub consumes :
@@ -20,3 +30,33 @@ pub consumes :
     Consumes t k n r (moved t (token (place t + 1)))
 unfolding consume
 consumes t e = record { reader = refl; answer = e }
+
+-- a token is looked at, and then taken
+pub peeked :
+    {t t′ : Tokens} {k m : ℕ} → k ≡ kindIn (kindsOf t) (place t) → Takes t m t′ →
+    Taking (kindsOf t) (place t) (record { kind = k; cursor = t′ .cursor })
+unfolding take
+peeked e g = record { kind = ap ok e; cursor = g .taken .cursor }
+
+-- a token that may stand there takes the cursor at most one further
+at-most : (b : Bool) (c : ℕ) → pick b (c + 1) c ≤ c + 1
+at-most true c = omega arith
+at-most false c = omega arith
+
+pub tried-within :
+    {t t′ : Tokens} {k : ℕ} {b : Bool} → Tries t k b t′ → place t ≤ Most.Tokens → place t′ ≤ Most.Tokens + 1
+unfolding optional
+tried-within {t} {k = k} g h =
+    let m = at-most (eqb (kindIn (kindsOf t) (place t)) k) (place t) in omega (arith, rw (← g .tried .cursor) at m, h)
+
+-- an optional comma, and then the token that closes a list
+pub ends :
+    {t t′ t″ : Tokens} {k n : ℕ} {b : Bool} {r : Consumed} → Tries t BaseToken.Comma b t′ → Consumes t′ k n r t″ →
+    Quiet consumed (ending k) (kindsOf t) (place t) n r
+unfolding ending consuming
+ends {t′ = t′} {k = k} {n} {r = r} g h = record {
+  run = λ tv ks ls.
+      shows (reads _ (optioned (g .tried) tv))
+      (subst (λ (ts : List ℕ). Quiet consumed (consuming k) ts (place t′) n r) (ap kindsOf (g .row)) (h .answer) .run
+      tv ks ls);
+}

@@ -4,7 +4,9 @@ use mathlib.Core.Bool.{Bool}
 use mathlib.Core.List.{List}
 use mathlib.Core.Path.{_≡_}
 use denote.Ref.{now}
-use Rattle.rules.specs.Reading.{consume}
+use Rattle.rules.specs.Codes.BaseToken as BaseToken
+use Rattle.rules.specs.Columns.{Nodes}
+use Rattle.rules.specs.Reading.{Row, Rule, consume, optional, _>>=_}
 use Rattle.codes.specs.declared.TokenId.{TokenId}
 use Rattle.codes.specs.Answer.{Quiet, token, row}
 use Rattle.tokens.specs.declared.Consumed.{Consumed}
@@ -37,3 +39,9 @@ pub record Consumes (t : Tokens) (expected count : ℕ) (r : Consumed) (t′ : T
   pub reader :
       t′ ≡ moved t (token (consume {S = Unit {0}} (row (kindsOf t) (kindsOf t)) expected (place t) tt .cursor))
   pub answer : Quiet consumed (consuming expected) (kindsOf t) (place t) count r
+
+-- an optional comma, and then a token of this kind
+unfoldable pub ending : ℕ → Row → Rule Nodes (Unit {0})
+ending k row = do
+  _ ← optional row BaseToken.Comma
+  consume row k

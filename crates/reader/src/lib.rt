@@ -4,8 +4,10 @@
 ghost use mathlib.Core.Path.{_≡_};
 ghost use Prim.Native.Nat.{_+_, _≤_};
 ghost use Rattle.rules.specs.Codes.Limit as Most;
-ghost use Rattle.tokens.specs.Answer.{kindIn, Taking};
-ghost use Rattle.reader.specs.Answer.{kindsOf, place, Takes, Tries, Consumes};
+ghost use Rattle.codes.specs.Answer.{Quiet};
+ghost use Rattle.tokens.specs.Answer.{kindIn, consumed, Taking};
+ghost use Rattle.reader.specs.Answer.{kindsOf, place, ending, Takes, Tries, Consumes};
+use codes::BaseToken;
 use codes::TokenId;
 use tokens::Consumed;
 use tokens::Taken;
@@ -65,15 +67,32 @@ pub fn consume_optional<'s, 'a>(tokens: &'s mut Tokens<'a>, expected: u8) -> boo
     optional.found
 }
 
-// The token at the cursor is taken by a reader.
+// The token at the cursor is looked at and taken, by a reader.
 pub fn take_at<'a>(kinds: &'a [u8], types: &'a [u8], cursor: TokenId) -> Taken
     requires { ⌜ cursor .0 ≤ Most.Tokens + 1 ⌝ }
     ensures { λ r. ⌜ Taking (now (kinds .entry)) (cursor .0) r ⌝ }
 {
     let mut reader = new(kinds, types, cursor);
-    let kind = take(&mut reader);
+    let kind = peek(&reader);
+    take(&mut reader);
     Taken {
         kind,
         cursor: reader.cursor,
     }
+}
+
+// A comma may stand at the cursor, and then the token that closes a list must, by a reader.
+pub fn consume_end<'a>(
+    kinds: &'a [u8],
+    types: &'a [u8],
+    cursor: TokenId,
+    count: u32,
+    closing: u8,
+) -> Consumed
+    requires { ⌜ cursor .0 ≤ Most.Tokens ⌝ }
+    ensures { λ r. ⌜ Quiet consumed (ending closing) (now (kinds .entry)) (cursor .0) count r ⌝ }
+{
+    let mut reader = new(kinds, types, cursor);
+    consume_optional(&mut reader, BaseToken::Comma);
+    consume(&mut reader, count, closing)
 }
