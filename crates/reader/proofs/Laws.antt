@@ -12,7 +12,8 @@ use Rattle.rules.specs.Reading.{ok, take, consume, optional}
 use Rattle.codes.specs.Answer.{Quiet, token}
 use Rattle.codes.proofs.Onto.{reads, shows}
 use Rattle.tokens.specs.declared.Consumed.{Consumed}
-use Rattle.tokens.specs.Answer.{kindIn, consumed, consuming, Taking}
+use Rattle.tokens.specs.declared.Optional.{Optional}
+use Rattle.tokens.specs.Answer.{kindIn, consumed, consuming, Taking, Optionally}
 use Rattle.tokens.proofs.Laws.{optioned}
 use Rattle.reader.specs.declared.Tokens.{Tokens}
 use Rattle.reader.specs.Answer.{moved, kindsOf, place, ending, Takes, Tries, Consumes}
@@ -43,20 +44,26 @@ at-most : (b : Bool) (c : ℕ) → pick b (c + 1) c ≤ c + 1
 at-most true c = omega arith
 at-most false c = omega arith
 
+pub optional-within :
+    {ks : List ℕ} {k c : ℕ} {o : Optional} → Optionally ks k c o → c ≤ Most.Tokens → o .cursor .0 ≤ Most.Tokens + 1
+unfolding optional
+optional-within {ks} {k} {c} g h =
+    let m = at-most (eqb (kindIn ks c) k) c in omega (arith, rw (← g .cursor) at m, h)
+
 pub tried-within :
     {t t′ : Tokens} {k : ℕ} {b : Bool} → Tries t k b t′ → place t ≤ Most.Tokens → place t′ ≤ Most.Tokens + 1
-unfolding optional
-tried-within {t} {k = k} g h =
-    let m = at-most (eqb (kindIn (kindsOf t) (place t)) k) (place t) in omega (arith, rw (← g .tried .cursor) at m, h)
+tried-within g h = optional-within (g .tried) h
 
--- an optional comma, and then the token that closes a list
+-- an optional comma, and then the token that closes a list: by the core's answers, and by the reader's
+pub ends-core :
+    (k : ℕ) {ks : List ℕ} {c n : ℕ} {o : Optional} {r : Consumed} → Optionally ks BaseToken.Comma c o →
+    Quiet consumed (consuming k) ks (o .cursor .0) n r → Quiet consumed (ending k) ks c n r
+unfolding ending consuming
+ends-core k g h = record { run = λ tv ks ls. shows (reads _ (optioned g tv)) (h .run tv ks ls) }
+
 pub ends :
     {t t′ t″ : Tokens} {k n : ℕ} {b : Bool} {r : Consumed} → Tries t BaseToken.Comma b t′ → Consumes t′ k n r t″ →
     Quiet consumed (ending k) (kindsOf t) (place t) n r
-unfolding ending consuming
-ends {t′ = t′} {k = k} {n} {r = r} g h = record {
-  run = λ tv ks ls.
-      shows (reads _ (optioned (g .tried) tv))
-      (subst (λ (ts : List ℕ). Quiet consumed (consuming k) ts (place t′) n r) (ap kindsOf (g .row)) (h .answer) .run
-      tv ks ls);
-}
+ends {t′ = t′} {k = k} {n} {r = r} g h =
+    ends-core k (g .tried)
+    (subst (λ (ts : List ℕ). Quiet consumed (consuming k) ts (place t′) n r) (ap kindsOf (g .row)) (h .answer))
