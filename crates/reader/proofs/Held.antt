@@ -73,8 +73,8 @@ values h = (row h ∷ [], (sliceVal (h .types .ptr) (length (h .types .now)) ∷
 
 abbrev pub Params : Lft → Tokens → Fml
 Params κ h =
-    owns (ShrSlice (named 0) κ u8 ∷ ShrSlice (named 0) κ u8 ∷ I.the-row ∷ []) (h .kinds, (h .types, (h .cursor, tt)))
-    (values h)
+    owns (ShrSlice (named 0) κ u8 ∷ ShrSlice (named 0) κ u8 ∷ I.the-row ∷ [])
+    (h .kinds, (h .types, (h .cursor, tt))) (values h)
 
 -- what the kinds and the cursor own
 abbrev pub Passed : Lft → Tokens → Fml
@@ -96,8 +96,8 @@ module _ {M : Type 1} (𝓤 : URA M) (H : Heap 𝓤) (A : Atoms 𝓤) (W : Given
   unmade : ent 𝓤 (sem 𝓤 H A (Own κ h)) (sem 𝓤 H A (Params κ h))
   unmade =
       qed W (‵ (Own κ h) ∷ []) ∵
-      use1 W (given (mach h ∷ [] ≡ mach h ∷ []) (‵ (Params κ h))) (own-open 𝓤 H A W (D κ) (L κ) (fields κ h) (mach h))
-      $ learn ! (λ _. done !)
+      use1 W (given (mach h ∷ [] ≡ mach h ∷ []) (‵ (Params κ h))) (own-open 𝓤 H A W (D κ) (L κ) (fields κ h)
+      (mach h)) $ learn ! (λ _. done !)
 
   both : ent 𝓤 (sem 𝓤 H A (Own κ h)) (sep 𝓤 (sem 𝓤 H A (Own κ h)) (sem 𝓤 H A (Own κ h)))
   both = LL.copy (D κ) (T′.the-copy (α κ)) 𝓤 H A W .twice h (mach h ∷ [])
@@ -110,7 +110,8 @@ module _ {M : Type 1} (𝓤 : URA M) (H : Heap 𝓤) (A : Atoms 𝓤) (W : Given
   -- the kinds and the cursor of a reader are had beside it
   pub apart : ent 𝓤 (sem 𝓤 H A (Own κ h)) (sep 𝓤 (sem 𝓤 H A (Passed κ h)) (sem 𝓤 H A (Own κ h)))
   apart =
-      qed W (‵ (Own κ h) ∷ []) ∵ use1 W (‵ (Own κ h) ⊛ ‵ (Own κ h)) both $ split ! $ use1 W (‵ (Params κ h)) unmade $
+      qed W (‵ (Own κ h) ∷ []) ∵ use1 W (‵ (Own κ h) ⊛ ‵ (Own κ h)) both $ split ! $ use1 W (‵ (Params κ h)) unmade
+      $
       fsplit ! $ move ! (1 ∷ []) $ fsplit ! $ drop ! $ fsplit ! $
       -- [what the cursor owns; true; what the kinds own; what the reader owns]
       move ! (1 ∷ []) $ drop ! $ move ! (1 ∷ 0 ∷ []) $ fjoin ! $ frame ! $ done !
@@ -130,7 +131,8 @@ module _ {M : Type 1} {𝓤 : URA M} {H : Heap 𝓤} {A : Atoms 𝓤} {K : Type 
   pub closes-reader :
       K → Soaks G → {κ κ′ : Lft} {q : Share} (h : Tokens) (c : TokenId) → Is I.the-row c (I′.lowered c ∷ []) →
       {u v : Gv} {γ : GName} (b o : ℕ) →
-      Step K W (‵ (fobs γ (B κ′ .coded .code (moved h c))) ∷ ‵ (fbor κ (Body (mem (B κ′)) b o γ)) ∷ ‵ (flft κ q) ∷ Γ) G
+      Step K W (‵ (fobs γ (B κ′ .coded .code (moved h c))) ∷ ‵ (fbor κ (Body (mem (B κ′)) b o γ)) ∷ ‵ (flft κ q) ∷
+      Γ) G
       (‵ (Cell (reader κ′) fullShare (moved h c) b o) ∷ ‵ (Own κ′ h) ∷ ‵ (fobor κ q (Body (mem (B κ′)) b o γ)) ∷
       ‵ (fobs γ u)
       ∷ ‵ (fauth γ v) ∷ Γ) G

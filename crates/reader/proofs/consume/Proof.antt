@@ -1,5 +1,5 @@
--- `reader::consume` meets its contract: a walk of its MIR, by hand, as that of `reader::take`, with two numbers more
--- that
+-- `reader::consume` meets its contract: a walk of its MIR, by hand, as that of `reader::take`, with two numbers
+-- more that
 -- are passed on. What `tokens::consume` answers is returned whole, and the reader goes on from the next token.
 use mathlib.Core.Path.{refl}
 use Prim.Native.Nat.{ℕ, _<_, _≤_, _+_, _^_}
@@ -39,8 +39,8 @@ use denote.Triple.Clauses.{ensured, lasts}
 use denote.Triple.Entry.{Vals, onEntry}
 use denote.Triple.Spec.{Meets, tripleOf}
 use denote.Triple.Table.{entered, cited}
-use denote.Triple.Walked.{says, needs, Stays, stay-ref, stay-none, walkOf, goes-ref, goes-none, Walks, ends-at, walked}
-use denote.Triple.Walked.{walk-meets}
+use denote.Triple.Walked.{says, needs, Stays, stay-ref, stay-none, walkOf, goes-ref, goes-none, Walks, ends-at}
+use denote.Triple.Walked.{walked, walk-meets}
 use denote.Exit.{yes}
 use Rattle.walks.proofs.Operands.{itself, local}
 use Rattle.walks.proofs.Whole.{opens-whole}
@@ -75,8 +75,8 @@ abbrev stayed : Stays (consume.ended .signature .params) (consume.ended .kept)
 stayed = (stay-ref (0 ∷ []) tt behind, (stay-none (λ _. u32) yes, (stay-none (λ _. u8) yes, tt)))
 
 -- the contract that the proof cites
-abbrev Core : {M : Type 1} (𝓤 : URA M) (H : Heap 𝓤) (A : Atoms 𝓤) (mem : Memory → SProp 𝓤) (run : Routine → Fun 𝓤) →
-    Contract 𝓤
+abbrev Core : {M : Type 1} (𝓤 : URA M) (H : Heap 𝓤) (A : Atoms 𝓤) (mem : Memory → SProp 𝓤) (run : Routine →
+    Fun 𝓤) → Contract 𝓤
 Core 𝓤 H A mem run = tripleOf 𝓤 H A core.signature (core.spec 𝓤 H A mem run)
 
 module _ {M : Type 1} (𝓤 : URA M) (H : Heap 𝓤) (A : Atoms 𝓤) (W : Given 𝓤 H A) (at-mem : Memory → SProp 𝓤)
@@ -140,13 +140,13 @@ module _ {M : Type 1} (𝓤 : URA M) (H : Heap 𝓤) (A : Atoms 𝓤) (W : Given
       owned ! u32 (Is u32) (uint-makes 𝓤 H A W w32) k _ (refl, k-fits) $ fjoin ! $ move ! (1 ∷ 0 ∷ []) $ fjoin ! $
       frame ! $ done !
 
-  module _ (C : Calls 𝓤 H) (Λ : Loops 𝓤 H) (fm : FmC 𝓤 H (W .laws) C) (known : Triple 𝓤 (C #core) (Core 𝓤 H A at-mem
-      run)) where
+  module _ (C : Calls 𝓤 H) (Λ : Loops 𝓤 H) (fm : FmC 𝓤 H (W .laws) C) (known : Triple 𝓤 (C #core)
+      (Core 𝓤 H A at-mem run)) where
     walk : ent 𝓤 (onEntry 𝓤 H A consume.signature (κ, (κ′, tt)) (q, (q′, tt)) x at) (WpFn 𝓤 H C Λ code.function
         (vptr b o ∷ vint w32 k ∷ vint w8 n ∷ []) Post)
     walk =
-        qed W ((‵ (flft κ q) ⊛ ‵ (flft κ′ q′) ⊛ ‵ ftrue) ∷ ‵ (owns (MutRef (named 0) κ (B κ′) ∷ u32 ∷ u8 ∷ []) x at) ∷
-        []) ∵ enter ! C Λ code.function (vptr b o ∷ vint w32 k ∷ vint w8 n ∷ []) _ $
+        qed W ((‵ (flft κ q) ⊛ ‵ (flft κ′ q′) ⊛ ‵ ftrue) ∷ ‵ (owns (MutRef (named 0) κ (B κ′) ∷ u32 ∷ u8 ∷ []) x
+        at) ∷ []) ∵ enter ! C Λ code.function (vptr b o ∷ vint w32 k ∷ vint w8 n ∷ []) _ $
         alloc1 ! (λ l₀. alloc1 ! (λ l₁. alloc1 ! (λ l₂. alloc1 ! (λ l₃. alloc1 ! (λ l₄. alloc1 ! (λ l₅. alloc1
         ! (λ l₆. alloc1 ! (λ l₇. alloc1 ! (λ l₈. alloc0 ! $ params1 ! $
         pass1 ! (init ! 14 refl (tt, tt)) $ pass1 ! (init ! 12 refl (tt, record { fits = k-fits })) $
@@ -154,34 +154,36 @@ module _ {M : Type 1} (𝓤 : URA M) (H : Heap 𝓤) (A : Atoms 𝓤) (W : Given
         -- the borrow is opened
         move ! (19 ∷ []) $ fsplit ! $ fsplit3 ! $ drop ! $ move ! (21 ∷ []) $ split ! $ move ! (2 ∷ 3 ∷ 0 ∷ []) $
         opens-whole ! tt (reader κ′) h b o (λ was.
-        -- [the reader's cell; what it owns; the open borrow; obs; auth; 'a's token; k's and n's; _8; …; _7; …; _6; …;
-        -- _5; …; _4; …; _3; …; _2; …; _1; …; room for _0; …]
+        -- [the reader's cell; what it owns; the open borrow; obs; auth; 'a's token; k's and n's; _8; …; _7; …; _6;
+        -- …; _5; …; _4; …; _3; …; _2; …; _1; …; room for _0; …]
         assigns ! (of-opd ! (load ! (from ! (hop ! (look ! 21 refl) (fld ! refl (stop !))))
         (look-in ! 0 (sub ! 0 refl (whole !))))) (itself !) (init ! 13 refl (tt, kinds-typed 𝓤 H A W κ′ h was)) $
         assigns ! (of-opd ! (load ! (from ! (hop ! (look ! 21 refl) (fld ! refl (stop !))))
         (look-in ! 0 (sub ! 2 refl (whole !))))) (itself !) (init ! 11 refl (tt, cursor-typed 𝓤 H A W κ′ h was)) $
-        move ! (1 ∷ []) $ use1 W (‵ (Passed κ′ h) ⊛ ‵ (Own κ′ h)) (apart 𝓤 H A W κ′ h) $ split ! $ move ! (0 ∷ 6 ∷ []) $
+        move ! (1 ∷ []) $ use1 W (‵ (Passed κ′ h) ⊛ ‵ (Own κ′ h)) (apart 𝓤 H A W κ′ h) $ split ! $
+        move ! (0 ∷ 6 ∷ []) $
         use2 W (raw (Core 𝓤 H A at-mem run .pre to)) asked $
-        -- [what the callee asks; what the reader owns; its cell; the open borrow; obs; auth; k's and n's; _8; …; _7;
-        -- …; _6; …; _5; …; _4; …; _3; …; _2; …; _1; …; room for _0; …]
+        -- [what the callee asks; what the reader owns; its cell; the open borrow; obs; auth; k's and n's; _8; …;
+        -- _7; …; _6; …; _5; …; _4; …; _3; …; _2; …; _1; …; room for _0; …]
         calls-at ! fm (Core 𝓤 H A at-mem run) known to (and-then ! (local ! 13 refl) (and-then ! (local ! 11 refl)
         (and-then ! (local ! 19 refl) (and-then ! (local ! 17 refl) (no-more !))))) (λ u.
         use1 W (later (some (λ (r : Consumed). ((‵ (flft κ′ q′) ⊛ ‵ ftrue) ⊛ ‵ (R.the-row .own r (u ∷ [])))
-        ⊛ raw (ensured 𝓤 H A core.ended (core.clauses 𝓤 H A at-mem run) (κ′, tt) (h .kinds, (h .cursor, (k, (n, tt))))
-        tt r)))) (id⊢ 𝓤 _) $ await ! tt $ pick ! (λ r.
+        ⊛ raw (ensured 𝓤 H A core.ended (core.clauses 𝓤 H A at-mem run) (κ′, tt)
+        (h .kinds, (h .cursor, (k, (n, tt)))) tt r)))) (id⊢ 𝓤 _) $ await ! tt $ pick ! (λ r.
         split ! $ move ! (1 ∷ []) $ use1 W (raw (fact 𝓤 (Said r))) (said r) $ heard ! (Said r) (λ e. split ! $
         move ! (1 ∷ []) $
-        -- [the result; 'a's token; what the reader owns; its cell; the open borrow; obs; auth; k's and n's; _8; …; _7;
-        -- …; _6; …; _5; …; _4; …; _3; …; _2; …; _1; …; room for _0; …]
+        -- [the result; 'a's token; what the reader owns; its cell; the open borrow; obs; auth; k's and n's; _8; …;
+        -- _7; …; _6; …; _5; …; _4; …; _3; …; _2; …; _1; …; room for _0; …]
         peeks ! R.the-row (Is R.the-row) (shows 𝓤 H A R.the-row) r (u ∷ []) (λ is.
         land ! (itself !) (init ! 16 refl (EL.lawful R.the-type R′.the-laws 𝓤 H A W tt .typed r _ is .0)) $
         assigns ! (of-opd ! (load ! (from ! (hop ! (look ! 22 refl) (fld ! refl (fld ! refl (stop !)))))
         (look-in ! 3 (sub ! 0 refl (sub ! 2 refl (whole !)))))) (itself !) (init ! 10 refl
         (tt, cursor-typed 𝓤 H A W κ′ h was .0)) $
-        assigns ! (bin ! (local ! 10 refl) (lit ! tt) (record { fits = next-fits within })) (itself !) (init ! 8 refl
-        (tt, record { fits = next-fits within })) $
+        assigns ! (bin ! (local ! 10 refl) (lit ! tt) (record { fits = next-fits within })) (itself !)
+        (init ! 8 refl (tt, record { fits = next-fits within })) $
         assigns ! (agg ! (and-then ! (local ! 8 refl) (no-more !))) (from ! (hop ! (look ! 22 refl)
-        (fld ! refl (stop !)))) (store-in ! 3 (sub ! 2 refl (whole !)) (tt, (record { fits = next-fits within }, tt))) $
+        (fld ! refl (stop !)))) (store-in ! 3 (sub ! 2 refl (whole !))
+        (tt, (record { fits = next-fits within }, tt))) $
         assigns ! (of-opd ! (local ! 16 refl)) (itself !) (init ! 24 refl (EL.lawful R.the-type R′.the-laws 𝓤 H A W
         tt .typed r _ is .0)) $
         -- the borrow is closed at the new cursor
@@ -201,19 +203,22 @@ module _ {M : Type 1} (𝓤 : URA M) (H : Heap 𝓤) (A : Atoms 𝓤) (W : Given
   consume-walks C Λ fm known = walked 𝓤 H A consume.ended stayed (consume.clauses 𝓤 H A mem run)
       (WpFn 𝓤 H C Λ code.function) (λ κs. (ptr-vals, (uint-vals w32, (uint-vals w8, tt))))
       (λ κs. (mut-tells (named 0) (κs .0) (B (κs .1 .0)), (uint-tells w32, (uint-tells w8, tt))))
-      (λ κs qs bounds a _ are. needs 𝓤 _ _ (λ within. walk 𝓤 H A W mem run (κs .0) (κs .1 .0) (qs .0) (qs .1 .0) bounds
-      (a .0 .ptr .0) (a .0 .ptr .1) (a .0 .name) (a .0 .now) (a .1 .0) (a .1 .1 .0) (are .1 .0 .1) (are .1 .1 .0 .1)
-      within C Λ fm known))
+      (λ κs qs bounds a _ are. needs 𝓤 _ _ (λ within. walk 𝓤 H A W mem run (κs .0) (κs .1 .0) (qs .0) (qs .1 .0)
+      bounds (a .0 .ptr .0) (a .0 .ptr .1) (a .0 .name) (a .0 .now) (a .1 .0) (a .1 .1 .0) (are .1 .0 .1)
+      (are .1 .1 .0 .1) within C Λ fm known))
 
 consume-meets : {M : Type 1} (𝓤 : URA M) (H : Heap 𝓤) (A : Atoms 𝓤) (W : Given 𝓤 H A) (mem : Memory → SProp 𝓤)
     (run : Routine → Fun 𝓤) (𝓣 : Tables 𝓤 H)
-    → Triple 𝓤 (𝓣 .C #core) (Core 𝓤 H A mem run) → Meets 𝓤 H A consume.signature (WpFn 𝓤 H (𝓣 .C) (𝓣 .Λ) code.function)
-    (consume.spec 𝓤 H A mem run)
+    → Triple 𝓤 (𝓣 .C #core) (Core 𝓤 H A mem run) → Meets 𝓤 H A consume.signature (WpFn 𝓤 H (𝓣 .C) (𝓣 .Λ)
+    code.function) (consume.spec 𝓤 H A mem run)
 consume-meets 𝓤 H A W mem run 𝓣 known = walk-meets 𝓤 H A consume.ended stayed W (
   goes-ref 𝓤 H A W 2 0 tt behind,
-  (goes-none 𝓤 H A W 2 (λ _. u32) yes (λ κs x f. refl), (goes-none 𝓤 H A W 2 (λ _. u8) yes (λ κs x f. refl), tt)),
-)
-    (consume.clauses 𝓤 H A mem run) (WpFn 𝓤 H (𝓣 .C) (𝓣 .Λ) code.function) (WpFn-mono 𝓤 H (W .laws) 𝓣 code.function)
+  (
+    goes-none 𝓤 H A W 2 (λ _. u32) yes (λ κs x f. refl),
+    (goes-none 𝓤 H A W 2 (λ _. u8) yes (λ κs x f. refl), tt),
+  ),
+) (consume.clauses 𝓤 H A mem run) (WpFn 𝓤 H (𝓣 .C)
+    (𝓣 .Λ) code.function) (WpFn-mono 𝓤 H (W .laws) 𝓣 code.function)
     (consume-walks 𝓤 H A W mem run (𝓣 .C) (𝓣 .Λ) (fmOf 𝓤 H (W .laws) 𝓣) known)
 
 pub consume-spec : {M : Type 1} → stated.statement M

@@ -1,6 +1,7 @@
 -- `reader::new` meets its contract: a walk of its MIR, by hand. A reader is made of the two slices and the cursor
 -- passed,
--- in the result's local. All three are Copy: what they own together is what the reader owns, and is had twice, once for
+-- in the result's local. All three are Copy: what they own together is what the reader owns, and is had twice,
+-- once for
 -- the parameters at exit and once for the result.
 use mathlib.Core.Path.{refl}
 use Prim.Native.Nat.{ℕ}
@@ -19,8 +20,8 @@ use contract.Monad.{Fun}
 use contract.Running.{givenOf, tables, tablesOf}
 use types.Kit.{Given, ‵, raw, _⊛_, _$_, _∵_, !, qed, by, move, use1, split, suffices, frame}
 use types.Part.{agg}
-use types.Run.{look, init, forget, and-then, no-more, assigns, returns, enter, alloc1, alloc0, params1, pass1, pass0}
-use types.Run.{free1, free0}
+use types.Run.{look, init, forget, and-then, no-more, assigns, returns, enter, alloc1, alloc0, params1, pass1}
+use types.Run.{pass0, free1, free0}
 use sound.WpLaws.{WpFn-mono}
 use denote.Laws.{Is}
 use denote.Builtin.{u8}
@@ -31,8 +32,8 @@ use denote.Struct.Laws as LL
 use denote.Triple.Entry.{onEntry}
 use denote.Triple.Spec.{Meets, tripleOf}
 use denote.Triple.Table.{entered}
-use denote.Triple.Walked.{says, Stays, stay-none, stay-none-slice, walkOf, goes-none, goes-none-slice, Walks, ends-at}
-use denote.Triple.Walked.{walked, walk-meets}
+use denote.Triple.Walked.{says, Stays, stay-none, stay-none-slice, walkOf, goes-none, goes-none-slice, Walks}
+use denote.Triple.Walked.{ends-at, walked, walk-meets}
 use denote.Exit.{yes}
 use Rattle.walks.proofs.Operands.{itself, local}
 use Rattle.codes.specs.declared.TokenId.{TokenId}
@@ -69,8 +70,8 @@ module _ {M : Type 1} (𝓤 : URA M) (H : Heap 𝓤) (A : Atoms 𝓤) (W : Given
   exits : ent 𝓤 (onEntry 𝓤 H A new.signature (κ, tt) (q, tt) (s, (t, (c, tt))) (values h)) (Post (mach h))
   exits =
       qed W ((‵ (flft κ q) ⊛ ‵ ftrue) ∷ ‵ (Params κ h) ∷ []) ∵
-      suffices ! _ (ends-at 𝓤 H A new.ended stayed (new.clauses 𝓤 H A mem run) W bound (mach h) h (tt, (tt, (tt, tt)))
-      (tt, (tt, (tt, tt)))) $ says ! (refl, refl, refl) $
+      suffices ! _ (ends-at 𝓤 H A new.ended stayed (new.clauses 𝓤 H A mem run) W bound (mach h) h
+      (tt, (tt, (tt, tt))) (tt, (tt, (tt, tt)))) $ says ! (refl, refl, refl) $
       frame ! $ use1 W (‵ (Params κ h) ⊛ ‵ (Params κ h)) (twice 𝓤 H A W κ h) $ split ! $ frame ! $
       by ! (made 𝓤 H A W κ h)
 

@@ -1,7 +1,7 @@
--- `reader::take` meets its contract: a walk of its MIR, by hand. The borrow is opened, `tokens::take` is called with
--- the
--- kinds and the cursor that the reader holds, its cursor is stored in the reader, and the borrow is closed. All that
--- the
+-- `reader::take` meets its contract: a walk of its MIR, by hand. The borrow is opened, `tokens::take` is called
+-- with the
+-- kinds and the cursor that the reader holds, its cursor is stored in the reader, and the borrow is closed. All
+-- that the
 -- proof knows of `tokens::take` is that it meets its contract.
 use mathlib.Core.Path.{refl, ap}
 use Prim.Native.Nat.{ℕ, _<_, _≤_, _+_, _^_}
@@ -71,8 +71,8 @@ abbrev stayed : Stays (take.ended .signature .params) (take.ended .kept)
 stayed = (stay-ref (0 ∷ []) tt behind, tt)
 
 -- the contract that the proof cites
-abbrev Core : {M : Type 1} (𝓤 : URA M) (H : Heap 𝓤) (A : Atoms 𝓤) (mem : Memory → SProp 𝓤) (run : Routine → Fun 𝓤) →
-    Contract 𝓤
+abbrev Core : {M : Type 1} (𝓤 : URA M) (H : Heap 𝓤) (A : Atoms 𝓤) (mem : Memory → SProp 𝓤) (run : Routine →
+    Fun 𝓤) → Contract 𝓤
 Core 𝓤 H A mem run = tripleOf 𝓤 H A core.signature (core.spec 𝓤 H A mem run)
 
 module _ {M : Type 1} (𝓤 : URA M) (H : Heap 𝓤) (A : Atoms 𝓤) (W : Given 𝓤 H A) (at-mem : Memory → SProp 𝓤)
@@ -130,37 +130,38 @@ module _ {M : Type 1} (𝓤 : URA M) (H : Heap 𝓤) (A : Atoms 𝓤) (W : Given
       nothing ! $ move ! (1 ∷ 0 ∷ []) $ fjoin ! $ frame ! $
       owned ! u8 (Is u8) (uint-makes 𝓤 H A W w8) (r .kind) _ (refl, fits) $ done !
 
-  module _ (C : Calls 𝓤 H) (Λ : Loops 𝓤 H) (fm : FmC 𝓤 H (W .laws) C) (known : Triple 𝓤 (C #core) (Core 𝓤 H A at-mem
-      run)) where
+  module _ (C : Calls 𝓤 H) (Λ : Loops 𝓤 H) (fm : FmC 𝓤 H (W .laws) C) (known : Triple 𝓤 (C #core)
+      (Core 𝓤 H A at-mem run)) where
     walk : ent 𝓤 (onEntry 𝓤 H A take.signature (κ, (κ′, tt)) (q, (q′, tt)) x at) (WpFn 𝓤 H C Λ code.function
         (vptr b o ∷ []) Post)
     walk =
-        qed W ((‵ (flft κ q) ⊛ ‵ (flft κ′ q′) ⊛ ‵ ftrue) ∷ ‵ (owns (MutRef (named 0) κ (B κ′) ∷ []) x at) ∷ []) ∵ enter
-        ! C Λ code.function (vptr b o ∷ []) _ $
+        qed W ((‵ (flft κ q) ⊛ ‵ (flft κ′ q′) ⊛ ‵ ftrue) ∷ ‵ (owns (MutRef (named 0) κ (B κ′) ∷ []) x at) ∷ []) ∵
+        enter ! C Λ code.function (vptr b o ∷ []) _ $
         alloc1 ! (λ l₀. alloc1 ! (λ l₁. alloc1 ! (λ l₂. alloc1 ! (λ l₃. alloc1 ! (λ l₄. alloc0 ! $ params1 ! $
         pass1 ! (init ! 6 refl (tt, tt)) $ pass0 ! $
         -- the borrow is opened
         move ! (11 ∷ []) $ fsplit ! $ fsplit3 ! $ drop ! $ move ! (13 ∷ []) $ split ! $ move ! (2 ∷ 3 ∷ 0 ∷ []) $
         opens-whole ! tt (reader κ′) h b o (λ was.
-        -- [the reader's cell; what it owns; the open borrow; obs; auth; 'a's token; true; _4; …; _3; …; _2; …; _1; …;
-        -- room for _0; …]
+        -- [the reader's cell; what it owns; the open borrow; obs; auth; 'a's token; true; _4; …; _3; …; _2; …; _1;
+        -- …; room for _0; …]
         assigns ! (of-opd ! (load ! (from ! (hop ! (look ! 13 refl) (fld ! refl (stop !))))
         (look-in ! 0 (sub ! 0 refl (whole !))))) (itself !) (init ! 9 refl (tt, kinds-typed 𝓤 H A W κ′ h was)) $
         assigns ! (of-opd ! (load ! (from ! (hop ! (look ! 13 refl) (fld ! refl (stop !))))
         (look-in ! 0 (sub ! 2 refl (whole !))))) (itself !) (init ! 7 refl (tt, cursor-typed 𝓤 H A W κ′ h was)) $
-        move ! (1 ∷ []) $ use1 W (‵ (Passed κ′ h) ⊛ ‵ (Own κ′ h)) (apart 𝓤 H A W κ′ h) $ split ! $ move ! (0 ∷ 6 ∷ []) $
+        move ! (1 ∷ []) $ use1 W (‵ (Passed κ′ h) ⊛ ‵ (Own κ′ h)) (apart 𝓤 H A W κ′ h) $ split ! $
+        move ! (0 ∷ 6 ∷ []) $
         use2 W (raw (Core 𝓤 H A at-mem run .pre to)) asked $
-        -- [what the callee asks; what the reader owns; its cell; the open borrow; obs; auth; true; _4; …; _3; …; _2;
-        -- …; _1; …; room for _0; …]
+        -- [what the callee asks; what the reader owns; its cell; the open borrow; obs; auth; true; _4; …; _3; …;
+        -- _2; …; _1; …; room for _0; …]
         calls-at ! fm (Core 𝓤 H A at-mem run) known to (and-then ! (local ! 9 refl) (and-then ! (local ! 7 refl)
         (no-more !))) (λ u.
-        use1 W (later (some (λ (r : Taken). ((‵ (flft κ′ q′) ⊛ ‵ ftrue) ⊛ ‵ (R.the-row .own r (u ∷ []))) ⊛ raw (ensured
-        𝓤 H A core.ended (core.clauses 𝓤 H A at-mem run) (κ′, tt) (h .kinds, (h .cursor, tt)) tt r)))) (id⊢ 𝓤 _) $
-        await ! tt $ pick ! (λ r.
+        use1 W (later (some (λ (r : Taken). ((‵ (flft κ′ q′) ⊛ ‵ ftrue) ⊛ ‵ (R.the-row .own r (u ∷ [])))
+        ⊛ raw (ensured 𝓤 H A core.ended (core.clauses 𝓤 H A at-mem run) (κ′, tt) (h .kinds, (h .cursor, tt)) tt
+        r)))) (id⊢ 𝓤 _) $ await ! tt $ pick ! (λ r.
         split ! $ move ! (1 ∷ []) $ use1 W (raw (fact 𝓤 (Said r))) (said r) $ heard ! (Said r) (λ e. split ! $
         move ! (1 ∷ []) $
-        -- [the result; 'a's token; what the reader owns; its cell; the open borrow; obs; auth; true; _4; …; _3; …; _2;
-        -- …; _1; …; room for _0; …]
+        -- [the result; 'a's token; what the reader owns; its cell; the open borrow; obs; auth; true; _4; …; _3; …;
+        -- _2; …; _1; …; room for _0; …]
         peeks ! R.the-row (Is R.the-row) (shows 𝓤 H A R.the-row) r (u ∷ []) (λ is.
         land ! (itself !) (init ! 12 refl (LL.lawful R.the-type R′.the-laws 𝓤 H A W .typed r _ is .0)) $
         rewrite ! 12 (λ (w : Val). ‵ (fat fullShare R′.mir l₂ 0 w)) (ap only (LL.tells R.the-type R′.the-laws r
@@ -168,11 +169,11 @@ module _ {M : Type 1} (𝓤 : URA M) (H : Heap 𝓤) (A : Atoms 𝓤) (W : Given
         assigns ! (of-opd ! (load ! (from ! (fld ! refl (stop !))) (look-in ! 12 (sub ! 1 refl (whole !)))))
         (from ! (hop ! (look ! 14 refl) (fld ! refl (stop !)))) (store-in ! 3 (sub ! 2 refl (whole !))
         (tt, (record { fits = LL.owed R.the-type R′.the-laws r _ is .1 .0 .1 .1 .0 .1 }, tt))) $
-        assigns ! (of-opd ! (load ! (from ! (fld ! refl (stop !))) (look-in ! 12 (sub ! 0 refl (whole !))))) (itself !)
-        (init ! 16 refl (tt, record { fits = LL.owed R.the-type R′.the-laws r _ is .0 .1 })) $
+        assigns ! (of-opd ! (load ! (from ! (fld ! refl (stop !))) (look-in ! 12 (sub ! 0 refl (whole !)))))
+        (itself !) (init ! 16 refl (tt, record { fits = LL.owed R.the-type R′.the-laws r _ is .0 .1 })) $
         -- the borrow is closed at the new cursor
-        drop ! $ move ! (2 ∷ 1 ∷ 3 ∷ 4 ∷ 5 ∷ []) $ closes-reader ! tt h (r .cursor) (LL.owed R.the-type R′.the-laws r _
-        is .1 .0) b o $
+        drop ! $ move ! (2 ∷ 1 ∷ 3 ∷ 4 ∷ 5 ∷ []) $ closes-reader ! tt h (r .cursor) (LL.owed R.the-type R′.the-laws
+        r _ is .1 .0) b o $
         returns ! (look ! 13 refl) $ forget ! 5 refl $ forget ! 7 refl $ forget ! 9 refl $ forget ! 11 refl $
         forget ! 13 refl $
         move ! (13 ∷ 14 ∷ []) $ free1 ! $ move ! (11 ∷ 12 ∷ []) $ free1 ! $ move ! (9 ∷ 10 ∷ []) $ free1 ! $
@@ -183,15 +184,15 @@ module _ {M : Type 1} (𝓤 : URA M) (H : Heap 𝓤) (A : Atoms 𝓤) (W : Given
     (run : Routine → Fun 𝓤) where
   take-walks : (C : Calls 𝓤 H) (Λ : Loops 𝓤 H) → FmC 𝓤 H (W .laws) C → Triple 𝓤 (C #core) (Core 𝓤 H A mem run) →
       Walks 𝓤 H A take.ended stayed (WpFn 𝓤 H C Λ code.function) (take.clauses 𝓤 H A mem run)
-  take-walks C Λ fm known = walked 𝓤 H A take.ended stayed (take.clauses 𝓤 H A mem run) (WpFn 𝓤 H C Λ code.function)
-      (λ κs. (ptr-vals, tt)) (λ κs. (mut-tells (named 0) (κs .0) (B (κs .1 .0)), tt))
-      (λ κs qs bounds a _ are. needs 𝓤 _ _ (λ within. walk 𝓤 H A W mem run (κs .0) (κs .1 .0) (qs .0) (qs .1 .0) bounds
-      (a .0 .ptr .0) (a .0 .ptr .1) (a .0 .name) (a .0 .now) within C Λ fm known))
+  take-walks C Λ fm known = walked 𝓤 H A take.ended stayed (take.clauses 𝓤 H A mem run)
+      (WpFn 𝓤 H C Λ code.function) (λ κs. (ptr-vals, tt)) (λ κs. (mut-tells (named 0) (κs .0) (B (κs .1 .0)), tt))
+      (λ κs qs bounds a _ are. needs 𝓤 _ _ (λ within. walk 𝓤 H A W mem run (κs .0) (κs .1 .0) (qs .0) (qs .1 .0)
+      bounds (a .0 .ptr .0) (a .0 .ptr .1) (a .0 .name) (a .0 .now) within C Λ fm known))
 
 take-meets : {M : Type 1} (𝓤 : URA M) (H : Heap 𝓤) (A : Atoms 𝓤) (W : Given 𝓤 H A) (mem : Memory → SProp 𝓤)
     (run : Routine → Fun 𝓤) (𝓣 : Tables 𝓤 H)
-    → Triple 𝓤 (𝓣 .C #core) (Core 𝓤 H A mem run) → Meets 𝓤 H A take.signature (WpFn 𝓤 H (𝓣 .C) (𝓣 .Λ) code.function)
-    (take.spec 𝓤 H A mem run)
+    → Triple 𝓤 (𝓣 .C #core) (Core 𝓤 H A mem run) → Meets 𝓤 H A take.signature (WpFn 𝓤 H (𝓣 .C) (𝓣 .Λ)
+    code.function) (take.spec 𝓤 H A mem run)
 take-meets 𝓤 H A W mem run 𝓣 known = walk-meets 𝓤 H A take.ended stayed W (goes-ref 𝓤 H A W 2 0 tt behind, tt)
     (take.clauses 𝓤 H A mem run) (WpFn 𝓤 H (𝓣 .C) (𝓣 .Λ) code.function) (WpFn-mono 𝓤 H (W .laws) 𝓣 code.function)
     (take-walks 𝓤 H A W mem run (𝓣 .C) (𝓣 .Λ) (fmOf 𝓤 H (W .laws) 𝓣) known)
