@@ -29,7 +29,7 @@ pub struct Patched {
 }
 
 // The record after a node was appended, or refused.
-pub fn after_push(buffer: ParseBuffer, reply: Parsed) -> ParseBuffer
+fn after_push(buffer: ParseBuffer, reply: Parsed) -> ParseBuffer
     ensures { λ r. ⌜ r ≡ counted buffer reply ⌝ }
 {
     let list = buffer.list;
@@ -50,7 +50,7 @@ pub fn after_push(buffer: ParseBuffer, reply: Parsed) -> ParseBuffer
 }
 
 // The record after an item was appended and the one before it patched, or the item refused.
-pub fn after_item(buffer: ParseBuffer, reply: Listed) -> ParseBuffer
+fn after_item(buffer: ParseBuffer, reply: Listed) -> ParseBuffer
     ensures { λ r. ⌜ r ≡ relisted buffer reply ⌝ }
 {
     match reply {

@@ -10,7 +10,8 @@ use base.Fml.{Lft, GName, Share, Fml, flft, fdead, fres, flent}
 use prog.Wp.{Heap}
 use ghost.Atoms.{Atoms}
 use contract.BorrowLft.{meet-⊑-left}
-use types.Kit.{Given, Item, ‵, raw, mean, _⊛_, ⋆, some, later, _$_, _∵_, !, qed, move, use1, use2, use3, split, join}
+use types.Kit.{Given, Item, ‵, raw, mean, _⊛_, ⋆, some, later, _$_, _∵_, !, qed, move, use1, use2, use3, split}
+use types.Kit.{join}
 use types.Kit.{pick, await, updating, now as at-once, show, done}
 use types.SemTy.{Body}
 use types.Tokens.{lft-new, lft-end, lent-back}
@@ -19,7 +20,8 @@ use denote.Memory.{mem, partAt}
 use denote.Ref.{RefT, MutRef, ShrRef}
 use Rattle.walks.proofs.Whole.{Whole, Cell, Own, lies-in, lies-out}
 
--- A value that holds references at κ is lent for the meet of κ and a lifetime ν of the call: one half of κ's token goes
+-- A value that holds references at κ is lent for the meet of κ and a lifetime ν of the call: one half of κ's token
+-- goes
 -- into the token of the meet, the other to the callee.
 module _ (κ : Lft) (q : Share) where
   abbrev pub Short : ℕ → Fml
@@ -45,15 +47,18 @@ module _ (κ : Lft) (q : Share) where
           move ! (2 ∷ 0 ∷ []) $ use2 W (‵ (Short ν)) (W .lfts .lft-meet (ν ∷ []) κ (PosShare·left q)) $ done !
 
       tokens-back :
-          ent 𝓤 (⋆ 𝓤 H A (‵ (Short ν) ∷ ‵ Long ∷ Way ν ∷ [])) (H .⇛ (⋆ 𝓤 H A (‵ (fdead (ν ∷ κ)) ∷ ‵ (flft κ q) ∷ [])))
+          ent 𝓤 (⋆ 𝓤 H A (‵ (Short ν) ∷ ‵ Long ∷ Way ν ∷ [])) (H .⇛ (⋆ 𝓤 H A (‵ (fdead (ν ∷ κ)) ∷ ‵ (flft κ q) ∷
+          [])))
       tokens-back =
           qed W (‵ (Short ν) ∷ ‵ Long ∷ Way ν ∷ []) ∵ updating ! $
-          use1 W (‵ (flft (ν ∷ []) (PosShare·left q)) ⊛ ‵ (flft κ (PosShare·left q))) (W .lfts .lft-unmeet (ν ∷ []) κ
+          use1 W (‵ (flft (ν ∷ []) (PosShare·left q)) ⊛ ‵ (flft κ (PosShare·left q))) (W .lfts .lft-unmeet (ν ∷ [])
+          κ
           (PosShare·left q)) $ split ! $
           move ! (1 ∷ 2 ∷ []) $ use2 W (‵ (flft κ q)) (W .lfts .lft-join κ q) $ move ! (1 ∷ 2 ∷ []) $
           use2 W (‵ (flft (ν ∷ []) fullShare)) (apply∗ 𝓤 (A .lft (ν ∷ []) (PosShare·left q))
           (A .lft (ν ∷ []) fullShare)) $ lft-end ! tt $
-          use1 W (‵ (fdead (ν ∷ κ))) (W .lfts .dead-incl (ν ∷ κ) (ν ∷ []) (meet-⊑-left (ν ∷ []) κ)) $ at-once ! $ done !
+          use1 W (‵ (fdead (ν ∷ κ))) (W .lfts .dead-incl (ν ∷ κ) (ν ∷ []) (meet-⊑-left (ν ∷ []) κ)) $ at-once ! $
+          done !
 
 module _ (T : Whole) (l : ℕ) where
   -- the references to the local, and the loan: what the lender has of it
@@ -79,8 +84,10 @@ module _ (T : Whole) (l : ℕ) where
         (H .⇛ (ex 𝓤 (λ (ν : ℕ). ex 𝓤 (λ (γ : GName). mean 𝓤 H A (Lent ν γ)))))
     lends =
         qed W (‵ (Cell T fullShare h l 0) ∷ ‵ (Own T h) ∷ []) ∵ updating ! $
-        use2 W (‵ (partAt (T .row) fullShare h l 0)) (lies-in T 𝓤 H A W h l 0) $ lft-new ! tt (λ ν. move ! (1 ∷ []) $
-        use1 W (later (some (λ (γ : GName). ‵ (Ref (ν ∷ []) γ h) ⊛ ‵ (Loan (ν ∷ []) γ)))) (lends-ref 𝓤 H A W (T .row)
+        use2 W (‵ (partAt (T .row) fullShare h l 0)) (lies-in T 𝓤 H A W h l 0) $
+        lft-new ! tt (λ ν. move ! (1 ∷ []) $
+        use1 W (later (some (λ (γ : GName). ‵ (Ref (ν ∷ []) γ h) ⊛ ‵ (Loan (ν ∷ []) γ)))) (lends-ref 𝓤 H A W
+        (T .row)
         (named 0) (ν ∷ []) h l 0) $
         await ! tt $ pick ! (λ γ. split ! $
         at-once ! $ show ! (λ (ν : ℕ). ex 𝓤 (λ (γ : GName). mean 𝓤 H A (Lent ν γ))) ν $
@@ -89,12 +96,15 @@ module _ (T : Whole) (l : ℕ) where
 
     pub comes-back :
         (ν : ℕ) (γ : GName) →
-        ent 𝓤 (⋆ 𝓤 H A (‵ (flft (ν ∷ []) fullShare) ∷ ‵ (Loan (ν ∷ []) γ) ∷ ‵ (fres γ (T .row .coded .code h)) ∷ []))
+        ent 𝓤 (⋆ 𝓤 H A (‵ (flft (ν ∷ []) fullShare) ∷ ‵ (Loan (ν ∷ []) γ) ∷ ‵ (fres γ (T .row .coded .code h)) ∷
+        []))
         (H .⇛ (⋆ 𝓤 H A (‵ (Cell T fullShare h l 0) ∷ ‵ (Own T h) ∷ [])))
     comes-back ν γ =
-        qed W (‵ (flft (ν ∷ []) fullShare) ∷ ‵ (Loan (ν ∷ []) γ) ∷ ‵ (fres γ (T .row .coded .code h)) ∷ []) ∵ updating
+        qed W (‵ (flft (ν ∷ []) fullShare) ∷ ‵ (Loan (ν ∷ []) γ) ∷ ‵ (fres γ (T .row .coded .code h)) ∷ []) ∵
+        updating
         ! $ lft-end ! tt $
-        use3 W (later (‵ (partAt (T .row) fullShare h l 0))) (ref-back 𝓤 H A W (T .row) (ν ∷ []) γ h l 0) $ await ! tt $
+        use3 W (later (‵ (partAt (T .row) fullShare h l 0))) (ref-back 𝓤 H A W (T .row) (ν ∷ []) γ h l 0) $
+        await ! tt $
         use1 W (‵ (Cell T fullShare h l 0) ⊛ ‵ (Own T h)) (lies-out T 𝓤 H A W h l 0) $ split ! $ at-once ! $ done !
 
   -- one that holds references at κ: by `&mut`, and by `&`
@@ -120,12 +130,15 @@ module _ (T : Whole) (l : ℕ) where
           ent 𝓤 (⋆ 𝓤 H A (Start h)) (H .⇛ (ex 𝓤 (λ (ν : ℕ). ex 𝓤 (λ (γ : GName). mean 𝓤 H A (LentWithin h ν γ)))))
       lends-within =
           qed W (Start h) ∵ updating ! $
-          use2 W (‵ (partAt (T .row) fullShare h l 0)) (lies-in T 𝓤 H A W h l 0) $ lft-new ! tt (λ ν. move ! (1 ∷ []) $
-          use1 W (later (some (λ (γ : GName). ‵ (Ref (ν ∷ κ) γ h) ⊛ ‵ (Loan (ν ∷ κ) γ)))) (lends-ref 𝓤 H A W (T .row)
+          use2 W (‵ (partAt (T .row) fullShare h l 0)) (lies-in T 𝓤 H A W h l 0) $
+          lft-new ! tt (λ ν. move ! (1 ∷ []) $
+          use1 W (later (some (λ (γ : GName). ‵ (Ref (ν ∷ κ) γ h) ⊛ ‵ (Loan (ν ∷ κ) γ)))) (lends-ref 𝓤 H A W
+          (T .row)
           (named 0) (ν ∷ κ) h l 0) $
           await ! tt $ pick ! (λ γ. split ! $
           -- [the reference; the loan; ν's token; κ's token]
-          move ! (2 ∷ 3 ∷ []) $ use2 W (‵ (Short κ q ν) ⊛ ‵ (Long κ q) ⊛ Way κ q 𝓤 H A ν) (tokens-out κ q 𝓤 H A W ν) $
+          move ! (2 ∷ 3 ∷ []) $ use2 W (‵ (Short κ q ν) ⊛ ‵ (Long κ q) ⊛ Way κ q 𝓤 H A ν) (tokens-out κ q 𝓤 H A W
+          ν) $
           split ! $ move ! (1 ∷ []) $ split ! $
           -- [the rest of κ's token; the way back to ν's; the token of the meet; the reference; the loan]
           at-once ! $ show ! (λ (ν : ℕ). ex 𝓤 (λ (γ : GName). mean 𝓤 H A (LentWithin h ν γ))) ν $
@@ -137,23 +150,27 @@ module _ (T : Whole) (l : ℕ) where
           ent 𝓤 (⋆ 𝓤 H A (‵ (Short κ q ν) ∷ ‵ (Long κ q) ∷ (Kept ν γ ⊛ ‵ (fres γ (T .row .coded .code h))) ∷ []))
           (H .⇛ (⋆ 𝓤 H A (Start h)))
       back-within ν γ =
-          qed W (‵ (Short κ q ν) ∷ ‵ (Long κ q) ∷ (Kept ν γ ⊛ ‵ (fres γ (T .row .coded .code h))) ∷ []) ∵ updating ! $
+          qed W (‵ (Short κ q ν) ∷ ‵ (Long κ q) ∷ (Kept ν γ ⊛ ‵ (fres γ (T .row .coded .code h))) ∷ []) ∵ updating
+          ! $
           move ! (2 ∷ []) $ split ! $ split ! $ move ! (3 ∷ 4 ∷ 1 ∷ []) $
           use3 W (later (‵ (fdead (ν ∷ κ)) ⊛ ‵ (flft κ q))) (tokens-back κ q 𝓤 H A W ν) $ await ! tt $ split ! $
           -- [the end of the meet; κ's token; the loan; res]
           move ! (0 ∷ 2 ∷ 3 ∷ []) $ use3 W (later (‵ (partAt (T .row) fullShare h l 0))) (ref-back 𝓤 H A W (T .row)
           (ν ∷ κ) γ h l 0) $ await ! tt $
-          use1 W (‵ (Cell T fullShare h l 0) ⊛ ‵ (Own T h)) (lies-out T 𝓤 H A W h l 0) $ split ! $ at-once ! $ done !
+          use1 W (‵ (Cell T fullShare h l 0) ⊛ ‵ (Own T h)) (lies-out T 𝓤 H A W h l 0) $ split ! $ at-once ! $
+          done !
 
       pub shares-within :
           ent 𝓤 (⋆ 𝓤 H A (Start h)) (H .⇛ (ex 𝓤 (λ (ν : ℕ). ex 𝓤 (λ (γ : GName). mean 𝓤 H A (SharedWithin h ν γ)))))
       shares-within =
           qed W (Start h) ∵ updating ! $
-          use2 W (‵ (partAt (T .row) fullShare h l 0)) (lies-in T 𝓤 H A W h l 0) $ lft-new ! tt (λ ν. move ! (1 ∷ []) $
+          use2 W (‵ (partAt (T .row) fullShare h l 0)) (lies-in T 𝓤 H A W h l 0) $
+          lft-new ! tt (λ ν. move ! (1 ∷ []) $
           use1 W (later (some (λ (γ : GName). ‵ (Shr (ν ∷ κ) γ h) ⊛ ‵ (flent (ν ∷ κ) (partAt (T .row) fullShare h l
           0))))) (lends-shr 𝓤 H A W (T .row) (named 0) (ν ∷ κ) fullShare h l 0) $
           await ! tt $ pick ! (λ γ. split ! $
-          move ! (2 ∷ 3 ∷ []) $ use2 W (‵ (Short κ q ν) ⊛ ‵ (Long κ q) ⊛ Way κ q 𝓤 H A ν) (tokens-out κ q 𝓤 H A W ν) $
+          move ! (2 ∷ 3 ∷ []) $ use2 W (‵ (Short κ q ν) ⊛ ‵ (Long κ q) ⊛ Way κ q 𝓤 H A ν) (tokens-out κ q 𝓤 H A W
+          ν) $
           split ! $ move ! (1 ∷ []) $ split ! $
           at-once ! $ show ! (λ (ν : ℕ). ex 𝓤 (λ (γ : GName). mean 𝓤 H A (SharedWithin h ν γ))) ν $
           show ! (λ (γ : GName). mean 𝓤 H A (SharedWithin h ν γ)) γ $
@@ -167,4 +184,5 @@ module _ (T : Whole) (l : ℕ) where
           use3 W (later (‵ (fdead (ν ∷ κ)) ⊛ ‵ (flft κ q))) (tokens-back κ q 𝓤 H A W ν) $ await ! tt $ split ! $
           -- [the end of the meet; κ's token; the loan]
           move ! (0 ∷ 2 ∷ []) $ lent-back ! tt $
-          use1 W (‵ (Cell T fullShare h l 0) ⊛ ‵ (Own T h)) (lies-out T 𝓤 H A W h l 0) $ split ! $ at-once ! $ done !
+          use1 W (‵ (Cell T fullShare h l 0) ⊛ ‵ (Own T h)) (lies-out T 𝓤 H A W h l 0) $ split ! $ at-once ! $
+          done !

@@ -1,4 +1,5 @@
--- A value of a declared type behind a reference, whole: its cell at the type that the body writes, and what it owns.
+-- A value of a declared type behind a reference, whole: its cell at the type that the body writes, and what it
+-- owns.
 use mathlib.Core.Path.{_≡_, sym, subst}
 use Prim.Native.Nat.{ℕ}
 use mathlib.Core.List.{List, [], _∷_}
@@ -12,7 +13,8 @@ use base.Stored.{Gv}
 use base.Fml.{Lft, GName, Share, Fml, fsep, fat, flft, fobs, fauth, fbor, fobor}
 use prog.Wp.{Heap}
 use ghost.Atoms.{Atoms, sem}
-use types.Kit.{Goal, Soaks, Seq, Step, step, Item, Given, ‵, _$_, _∵_, !, qed, move, use1, fsplit, fjoin, fpick, fpack}
+use types.Kit.{Goal, Soaks, Seq, Step, step, Item, Given, ‵, _$_, _∵_, !, qed, move, use1, fsplit, fjoin, fpick}
+use types.Kit.{fpack}
 use types.Kit.{done}
 use types.SemTy.{Body}
 use denote.RattleType.{RattleType}
@@ -56,7 +58,8 @@ module _ (T : Whole) where
   module _ {M : Type 1} (𝓤 : URA M) (H : Heap 𝓤) (A : Atoms 𝓤) (W : Given 𝓤 H A) (h : T .row .Denot) (b o : ℕ) where
     -- the two are what lies in memory
     pub lies-in :
-        ent 𝓤 (sep 𝓤 (sem 𝓤 H A (Cell fullShare h b o)) (sem 𝓤 H A (Own h))) (sem 𝓤 H A (partAt (T .row) fullShare h b
+        ent 𝓤 (sep 𝓤 (sem 𝓤 H A (Cell fullShare h b o)) (sem 𝓤 H A (Own h))) (sem 𝓤 H A (partAt (T .row) fullShare
+        h b
         o))
     unfolding partOf
     lies-in =

@@ -21,8 +21,8 @@ use contract.Running.{givenOf, tables, tablesOf}
 use types.Kit.{Given, Item, ‵, raw, some, later, _⊛_, ⋆, _$_, _∵_, !, qed, by, move, keep, use1, use2, use3, split}
 use types.Kit.{join, pick, rewrite, fsplit, fjoin, feqL, suffices, frame, await, done}
 use types.Part.{agg, whole, sub, look-in}
-use types.Run.{look, init, forget, stop, hop, fld, from, load, addr, of-opd, and-then, no-more, assigns, land, returns}
-use types.Run.{enter, alloc1, alloc0, params1, pass1, pass0, free1, free0}
+use types.Run.{look, init, forget, stop, hop, fld, from, load, addr, of-opd, and-then, no-more, assigns, land}
+use types.Run.{returns, enter, alloc1, alloc0, params1, pass1, pass0, free1, free0}
 use sound.WpLaws.{FmC, fmOf, WpFn-mono}
 use denote.RattleType.{owns}
 use denote.Laws.{Is, shows}
@@ -43,7 +43,7 @@ use denote.Triple.Table.{entered, cited}
 use denote.Triple.Walked.{says, needs, Stays, stay-none, gave-slice, walkOf, goes-none, goes-gave-slice, Walks}
 use denote.Triple.Walked.{ends-at, walked, walk-meets}
 use denote.Exit.{yes}
-use Rattle.walks.proofs.Operands.{itself, local}
+use Rattle.walks.proofs.Operands.{itself, local, gone}
 use Rattle.walks.proofs.Whole.{Cell, Own}
 use Rattle.walks.proofs.Lent.{ref, Ref, Lent, lends, comes-back}
 use Rattle.codes.specs.declared.TokenId.{TokenId}
@@ -82,8 +82,8 @@ stayed = (
 )
 
 -- the contract that the proof cites
-abbrev Append : {M : Type 1} (𝓤 : URA M) (H : Heap 𝓤) (A : Atoms 𝓤) (mem : Memory → SProp 𝓤) (run : Routine → Fun 𝓤) →
-    Contract 𝓤
+abbrev Append : {M : Type 1} (𝓤 : URA M) (H : Heap 𝓤) (A : Atoms 𝓤) (mem : Memory → SProp 𝓤) (run : Routine →
+    Fun 𝓤) → Contract 𝓤
 Append 𝓤 H A mem run = tripleOf 𝓤 H A append.signature (append.spec 𝓤 H A mem run)
 
 module _ {M : Type 1} (𝓤 : URA M) (H : Heap 𝓤) (A : Atoms 𝓤) (W : Given 𝓤 H A) (mem : Memory → SProp 𝓤)
@@ -95,7 +95,13 @@ module _ {M : Type 1} (𝓤 : URA M) (H : Heap 𝓤) (A : Atoms 𝓤) (W : Given
   args = (ks, (ls, (c, (h, (k, (n, tt))))))
 
   abbrev vals : Vals append-to.signature (κ₁, (κ₂, tt))
-  vals = (column ks ∷ [], (column ls ∷ [], (I′.lowered c ∷ [], (val h ∷ [], (vint w8 k ∷ [], (vint w32 n ∷ [], tt))))))
+  vals = (
+    column ks ∷ [],
+    (
+      column ls ∷ [],
+      (I′.lowered c ∷ [], (val h ∷ [], (vint w8 k ∷ [], (vint w32 n ∷ [], tt)))),
+    ),
+  )
 
   abbrev bound : walkOf 𝓤 H A append-to.ended stayed (append-to.clauses 𝓤 H A mem run) .Ghost
   bound = (((κ₁, (κ₂, tt)), (q₁, (q₂, tt)), tt, args, vals), tt)
@@ -145,8 +151,8 @@ module _ {M : Type 1} (𝓤 : URA M) (H : Heap 𝓤) (A : Atoms 𝓤) (W : Given
         ent 𝓤 (⋆ 𝓤 H A (‵ (Ref buffer l (ν ∷ []) γ h) ∷ ‵ Columns ∷ (‵ (flft (ν ∷ []) fullShare) ⊛ toks) ∷ []))
         (Append 𝓤 H A mem run .pre to)
     goes =
-        qed W (‵ (Ref buffer l (ν ∷ []) γ h) ∷ ‵ Columns ∷ (‵ (flft (ν ∷ []) fullShare) ⊛ toks) ∷ []) ∵ says ! slots $
-        move ! (1 ∷ []) $ fsplit ! $
+        qed W (‵ (Ref buffer l (ν ∷ []) γ h) ∷ ‵ Columns ∷ (‵ (flft (ν ∷ []) fullShare) ⊛ toks) ∷ []) ∵ says
+        ! slots $ move ! (1 ∷ []) $ fsplit ! $
         -- [the kinds; the loads; the reference; the tokens]
         nothing ! $ owned ! u32 (Is u32) (uint-makes 𝓤 H A W w32) n _ (refl, n-fits) $ fjoin ! $
         owned ! u8 (Is u8) (uint-makes 𝓤 H A W w8) k _ (refl, k-fits) $ fjoin ! $
@@ -168,20 +174,24 @@ module _ {M : Type 1} (𝓤 : URA M) (H : Heap 𝓤) (A : Atoms 𝓤) (W : Given
       ‵ Plain ∷ []))
       (Post (LL.val Z.the-type Z′.the-laws (record { reply = r; buffer = ws .0 })))
   exits r ws e m₁ m₂ is is′ =
-      qed W (toks ∷ ‵ (finally u32 (ls .name) (ws .1 .1 .0)) ∷ ‵ (finally u8 (ks .name) (ws .1 .0)) ∷ ‵ Plain ∷ []) ∵
-      suffices ! _ (ends-at 𝓤 H A append-to.ended stayed (append-to.clauses 𝓤 H A mem run) W bound (LL.val Z.the-type
-      Z′.the-laws (record { reply = r; buffer = ws .0 })) (record { reply = r; buffer = ws .0 })
+      qed W (toks ∷ ‵ (finally u32 (ls .name) (ws .1 .1 .0)) ∷ ‵ (finally u8 (ks .name) (ws .1 .0)) ∷ ‵ Plain ∷ [])
+      ∵
+      suffices ! _ (ends-at 𝓤 H A append-to.ended stayed (append-to.clauses 𝓤 H A mem run) W bound
+      (LL.val Z.the-type Z′.the-laws (record { reply = r; buffer = ws .0 })) (record { reply = r; buffer = ws .0 })
       (ws .1 .0, (ws .1 .1 .0, (tt, (tt, (tt, (tt, tt)))))) (m₁, (m₂, (tt, (tt, (tt, (tt, tt))))))) $
       says ! e $ frame ! $ move ! (0 ∷ 2 ∷ []) $ fjoin ! $ move ! (1 ∷ 0 ∷ []) $ fjoin ! $ frame ! $
-      owned ! Z.the-row (Is Z.the-row) (LL.makes Z.the-type Z′.the-plain 𝓤 H A) (record { reply = r; buffer = ws .0 })
-      _ (LL.owes Z.the-type Z′.the-laws (record { reply = r; buffer = ws .0 }) (is, (is′, tt))) $ done !
+      owned ! Z.the-row (Is Z.the-row) (LL.makes Z.the-type Z′.the-plain 𝓤 H A) (record {
+        reply = r;
+        buffer = ws .0;
+      }) _ (LL.owes Z.the-type Z′.the-laws (record { reply = r; buffer = ws .0 }) (is, (is′, tt))) $ done !
 
   module _ (C : Calls 𝓤 H) (Λ : Loops 𝓤 H) (fm : FmC 𝓤 H (W .laws) C) (known : Triple 𝓤 (C #buffer·append)
       (Append 𝓤 H A mem run)) where
     walk :
         Is (MutSlice (named 0) κ₁ u8) ks (column ks ∷ []) → Is (MutSlice (named 1) κ₂ u32) ls (column ls ∷ []) →
-        ent 𝓤 (onEntry 𝓤 H A append-to.signature (κ₁, (κ₂, tt)) (q₁, (q₂, tt)) args vals) (WpFn 𝓤 H C Λ code.function
-        (column ks ∷ column ls ∷ I′.lowered c ∷ val h ∷ vint w8 k ∷ vint w32 n ∷ []) Post)
+        ent 𝓤 (onEntry 𝓤 H A append-to.signature (κ₁, (κ₂, tt)) (q₁, (q₂, tt)) args vals)
+        (WpFn 𝓤 H C Λ code.function (column ks ∷ column ls ∷ I′.lowered c ∷ val h ∷ vint w8 k ∷ vint w32 n ∷ [])
+        Post)
     walk ks-is ls-is =
         qed W (toks ∷ ‵ (owns (MutSlice (named 0) κ₁ u8 ∷ MutSlice (named 1) κ₂ u32 ∷ I.the-row ∷ P.the-row ∷ u8 ∷
         u32 ∷ []) args vals) ∷ []) ∵
@@ -198,22 +208,22 @@ module _ {M : Type 1} (𝓤 : URA M) (H : Heap 𝓤) (A : Atoms 𝓤) (W : Given
         assigns ! (of-opd ! (local ! 20 refl)) (itself !) (init ! 14 refl (LL.lawful P.the-type P′.the-laws 𝓤 H A
         W .typed h _ h-is .0)) $
         assigns ! (addr ! (itself !)) (itself !) (init ! 10 refl (tt, tt)) $
-        assigns ! (addr ! (from ! (fld ! refl (hop ! (look-in ! 26 (sub ! 0 refl (whole !))) (stop !))))) (itself !)
-        (init ! 8 refl (tt, tt)) $
+        assigns ! (addr ! (from ! (fld ! refl (hop ! (look-in ! 26 (sub ! 0 refl (whole !))) (stop !)))))
+        (itself !) (init ! 8 refl (tt, tt)) $
         assigns ! (agg ! (and-then ! (local ! 8 refl) (and-then ! (load ! (from ! (fld ! refl (stop !)))
         (look-in ! 26 (sub ! 1 refl (whole !)))) (no-more !)))) (itself !) (init ! 6 refl (mut-slice-lawful 𝓤 H A W
         (named 0) κ₁ u8 .typed ks _ ks-is .0)) $
-        assigns ! (addr ! (from ! (fld ! refl (hop ! (look-in ! 24 (sub ! 0 refl (whole !))) (stop !))))) (itself !)
-        (init ! 4 refl (tt, tt)) $
+        assigns ! (addr ! (from ! (fld ! refl (hop ! (look-in ! 24 (sub ! 0 refl (whole !))) (stop !)))))
+        (itself !) (init ! 4 refl (tt, tt)) $
         assigns ! (agg ! (and-then ! (local ! 4 refl) (and-then ! (load ! (from ! (fld ! refl (stop !)))
         (look-in ! 24 (sub ! 1 refl (whole !)))) (no-more !)))) (itself !) (init ! 2 refl (mut-slice-lawful 𝓤 H A W
         (named 1) κ₂ u32 .typed ls _ ls-is .0)) $
         -- the record is lent
         owned ! P.the-row (Is P.the-row) (LL.makes P.the-type P′.the-plain 𝓤 H A) h _ h-is $ move ! (15 ∷ 0 ∷ []) $
-        use2 W (later (some (λ (ν : ℕ). some (λ (γ : GName). Lent buffer l₇ 𝓤 H A W h ν γ)))) (lends buffer l₇ 𝓤 H A W
-        h) $ await ! tt $ pick ! (λ ν. pick ! (λ γ. split ! $ move ! (1 ∷ []) $ split ! $
-        -- [its lifetime's token; the loan; the reference; _14; …; _13; …; _12; …; _11; …; _10; …; _9; …; _8; …; …; _6;
-        -- …; _5; …; _4; …; _3; …; _2; …; _1; …; room for _0; …; the tokens; what the parameters own]
+        use2 W (later (some (λ (ν : ℕ). some (λ (γ : GName). Lent buffer l₇ 𝓤 H A W h ν γ)))) (lends buffer l₇ 𝓤 H
+        A W h) $ await ! tt $ pick ! (λ ν. pick ! (λ γ. split ! $ move ! (1 ∷ []) $ split ! $
+        -- [its lifetime's token; the loan; the reference; _14; …; _13; …; _12; …; _11; …; _10; …; _9; …; _8; …; …;
+        -- _6; …; _5; …; _4; …; _3; …; _2; …; _1; …; room for _0; …; the tokens; what the parameters own]
         move ! (33 ∷ []) $ fsplit ! $ move ! (1 ∷ []) $ fsplit ! $ move ! (2 ∷ 0 ∷ []) $ fjoin ! $
         move ! (2 ∷ 34 ∷ []) $ join ! $ move ! (4 ∷ 1 ∷ 0 ∷ []) $
         use3 W (raw (Append 𝓤 H A mem run .pre (to l₇ ν γ))) (goes l₇ ν γ) $
@@ -224,8 +234,8 @@ module _ {M : Type 1} (𝓤 : URA M) (H : Heap 𝓤) (A : Atoms 𝓤) (W : Given
         use1 W (later (some (λ (r : Parsed). ((‵ (flft (ν ∷ []) fullShare) ⊛ toks) ⊛ ‵ (R.the-row .own r (u ∷ [])))
         ⊛ raw (ensured 𝓤 H A append.ended (append.clauses 𝓤 H A mem run) (lfts l₇ ν γ) (passed l₇ ν γ) tt r))))
         (id⊢ 𝓤 _) $ await ! tt $ pick ! (λ r.
-        split ! $ move ! (1 ∷ []) $ use1 W (some (λ (ws : Last). ‵ (lasts append.ended (lfts l₇ ν γ) (passed l₇ ν γ)
-        ws) ⊛ raw (fact 𝓤 (Said r ws)))) (id⊢ 𝓤 _) $ pick ! (λ ws.
+        split ! $ move ! (1 ∷ []) $ use1 W (some (λ (ws : Last). ‵ (lasts append.ended (lfts l₇ ν γ)
+        (passed l₇ ν γ) ws) ⊛ raw (fact 𝓤 (Said r ws)))) (id⊢ 𝓤 _) $ pick ! (λ ws.
         split ! $ move ! (1 ∷ []) $ heard ! (Said r ws) (λ e. fsplit ! $ move ! (1 ∷ []) $ fsplit ! $ fsplit ! $
         move ! (1 ∷ []) $ feqL ! (λ m₁. move ! (1 ∷ []) $ fsplit ! $ fsplit ! $ move ! (1 ∷ []) $ feqL ! (λ m₂.
         move ! (4 ∷ []) $ split ! $ split ! $
@@ -235,11 +245,12 @@ module _ {M : Type 1} (𝓤 : URA M) (H : Heap 𝓤) (A : Atoms 𝓤) (W : Given
         (comes-back buffer l₇ 𝓤 H A W (ws .0) ν γ) $ await ! tt $ split ! $
         move ! (1 ∷ []) $ peeks ! P.the-row (Is P.the-row) (shows 𝓤 H A P.the-row) (ws .0) (val (ws .0) ∷ [])
         (λ is′. move ! (3 ∷ []) $
-        -- [the answer; what the record owns; its cell; the tokens; the loads' last list; …; the kinds'; what the other
-        -- parameters own; _14; …; _13; …; _12; …; _11; …; _10; …; _9; …; _8; …; …; _6; …; _5; …; _4; …; _3; …; _2; …;
-        -- _1; …; room for _0; …]
+        -- [the answer; what the record owns; its cell; the tokens; the loads' last list; …; the kinds'; what the
+        -- other parameters own; _14; …; _13; …; _12; …; _11; …; _10; …; _9; …; _8; …; …; _6; …; _5; …; _4; …; _3;
+        -- …; _2; …; _1; …; room for _0; …]
         peeks ! R.the-row (Is R.the-row) (shows 𝓤 H A R.the-row) r (u ∷ []) (λ is₀.
-        rewrite ! 0 (λ (ys : List Val). ‵ (R.the-row .own r ys)) (EL.tells R.the-type R′.the-laws r (u ∷ []) is₀) refl $
+        rewrite ! 0 (λ (ys : List Val). ‵ (R.the-row .own r ys)) (EL.tells R.the-type R′.the-laws r (u ∷ []) is₀)
+        refl $
         peeks ! R.the-row (Is R.the-row) (shows 𝓤 H A R.the-row) r (EL.vals R.the-type R′.the-laws r) (λ is.
         land ! (itself !) (init ! 20 refl (EL.lawful R.the-type R′.the-laws 𝓤 H A W tt .typed r _ is₀ .0)) $
         rewrite ! 20 (λ (y : Val). ‵ (fat fullShare R′.mir l₈ 0 y)) (ap only (EL.tells R.the-type R′.the-laws r
@@ -249,22 +260,18 @@ module _ {M : Type 1} (𝓤 : URA M) (H : Heap 𝓤) (A : Atoms 𝓤) (W : Given
         assigns ! (agg ! (and-then ! (local ! 20 refl) (and-then ! (local ! 8 refl) (no-more !)))) (itself !)
         (init ! 35 refl (LL.lawful Z.the-type Z′.the-laws 𝓤 H A W .typed (record { reply = r; buffer = ws .0 }) _
         (LL.owes Z.the-type Z′.the-laws (record { reply = r; buffer = ws .0 }) (is, (is′, tt))) .0)) $
-        returns ! (look ! 35 refl) $ forget ! 2 refl $ forget ! 8 refl $ forget ! 10 refl $ forget ! 12 refl $
-        forget ! 14 refl $ forget ! 16 refl $ forget ! 18 refl $ forget ! 20 refl $ forget ! 23 refl $
-        forget ! 25 refl $ forget ! 27 refl $ forget ! 29 refl $ forget ! 31 refl $ forget ! 33 refl $
-        forget ! 35 refl $
-        move ! (35 ∷ 36 ∷ []) $ free1 ! $ move ! (33 ∷ 34 ∷ []) $ free1 ! $ move ! (31 ∷ 32 ∷ []) $ free1 ! $
-        move ! (29 ∷ 30 ∷ []) $ free1 ! $ move ! (27 ∷ 28 ∷ []) $ free1 ! $ move ! (25 ∷ 26 ∷ []) $ free1 ! $
-        move ! (23 ∷ 24 ∷ []) $ free1 ! $ move ! (2 ∷ 22 ∷ []) $ free1 ! $ move ! (19 ∷ 20 ∷ []) $ free1 ! $
-        move ! (17 ∷ 18 ∷ []) $ free1 ! $ move ! (15 ∷ 16 ∷ []) $ free1 ! $ move ! (13 ∷ 14 ∷ []) $ free1 ! $
-        move ! (11 ∷ 12 ∷ []) $ free1 ! $ move ! (9 ∷ 10 ∷ []) $ free1 ! $ move ! (7 ∷ 8 ∷ []) $ free1 ! $ free0 ! $
+        returns ! (look ! 35 refl) $
+        gone ! 35 refl refl $ gone ! 33 refl refl $ gone ! 31 refl refl $ gone ! 29 refl refl $
+        gone ! 27 refl refl $ gone ! 25 refl refl $ gone ! 23 refl refl $ forget ! 2 refl $ move ! (2 ∷ 22 ∷ []) $
+        free1 ! $ gone ! 19 refl refl $ gone ! 17 refl refl $ gone ! 15 refl refl $ gone ! 13 refl refl $
+        gone ! 11 refl refl $ gone ! 9 refl refl $ gone ! 7 refl refl $ free0 ! $
         keep ! (2 ∷ 3 ∷ 5 ∷ 6 ∷ []) $ by ! (exits r ws e m₁ m₂ is is′)))))))))))))))))))))))))))
 
 module _ {M : Type 1} (𝓤 : URA M) (H : Heap 𝓤) (A : Atoms 𝓤) (W : Given 𝓤 H A) (mem : Memory → SProp 𝓤)
     (run : Routine → Fun 𝓤) where
   append-to-walks : (C : Calls 𝓤 H) (Λ : Loops 𝓤 H) → FmC 𝓤 H (W .laws) C → Triple 𝓤 (C #buffer·append)
-      (Append 𝓤 H A mem run) → Walks 𝓤 H A append-to.ended stayed (WpFn 𝓤 H C Λ code.function) (append-to.clauses 𝓤 H A
-      mem run)
+      (Append 𝓤 H A mem run) → Walks 𝓤 H A append-to.ended stayed (WpFn 𝓤 H C Λ code.function) (append-to.clauses 𝓤
+      H A mem run)
   append-to-walks C Λ fm known = walked 𝓤 H A append-to.ended stayed (append-to.clauses 𝓤 H A mem run)
       (WpFn 𝓤 H C Λ code.function)
       (λ κs. (
@@ -284,13 +291,13 @@ module _ {M : Type 1} (𝓤 : URA M) (H : Heap 𝓤) (A : Atoms 𝓤) (W : Given
       (λ κs qs bounds a g are. needs 𝓤 _ _ (λ slots.
       walk 𝓤 H A W mem run (κs .0) (κs .1 .0) (qs .0) (qs .1 .0) (a .0) (a .1 .0) (a .1 .1 .0) (a .1 .1 .1 .0)
       (a .1 .1 .1 .1 .0) (a .1 .1 .1 .1 .1 .0)
-      (are .1 .1 .0) (are .1 .1 .1 .0) (are .1 .1 .1 .1 .0 .1) (are .1 .1 .1 .1 .1 .0 .1) slots C Λ fm known (are .0)
-      (are .1 .0)))
+      (are .1 .1 .0) (are .1 .1 .1 .0) (are .1 .1 .1 .1 .0 .1) (are .1 .1 .1 .1 .1 .0 .1) slots C Λ fm known
+      (are .0) (are .1 .0)))
 
 append-to-meets : {M : Type 1} (𝓤 : URA M) (H : Heap 𝓤) (A : Atoms 𝓤) (W : Given 𝓤 H A) (mem : Memory → SProp 𝓤)
     (run : Routine → Fun 𝓤) (𝓣 : Tables 𝓤 H)
-    → Triple 𝓤 (𝓣 .C #buffer·append) (Append 𝓤 H A mem run) → Meets 𝓤 H A append-to.signature (WpFn 𝓤 H (𝓣 .C) (𝓣 .Λ)
-    code.function) (append-to.spec 𝓤 H A mem run)
+    → Triple 𝓤 (𝓣 .C #buffer·append) (Append 𝓤 H A mem run) → Meets 𝓤 H A append-to.signature (WpFn 𝓤 H (𝓣 .C)
+    (𝓣 .Λ) code.function) (append-to.spec 𝓤 H A mem run)
 append-to-meets 𝓤 H A W mem run 𝓣 known = walk-meets 𝓤 H A append-to.ended stayed W (
   goes-gave-slice 𝓤 H A W 2 0 tt (plain (λ _. u8)),
   (
@@ -299,19 +306,24 @@ append-to-meets 𝓤 H A W mem run 𝓣 known = walk-meets 𝓤 H A append-to.en
       goes-none 𝓤 H A W 2 (λ _. I.the-row) yes (λ κs x f. refl),
       (
         goes-none 𝓤 H A W 2 (λ _. P.the-row) yes (λ κs x f. refl),
-        (goes-none 𝓤 H A W 2 (λ _. u8) yes (λ κs x f. refl), (goes-none 𝓤 H A W 2 (λ _. u32) yes (λ κs x f. refl), tt)),
+        (
+          goes-none 𝓤 H A W 2 (λ _. u8) yes (λ κs x f. refl),
+          (goes-none 𝓤 H A W 2 (λ _. u32) yes (λ κs x f. refl), tt),
+        ),
       ),
     ),
   ),
 )
-    (append-to.clauses 𝓤 H A mem run) (WpFn 𝓤 H (𝓣 .C) (𝓣 .Λ) code.function) (WpFn-mono 𝓤 H (W .laws) 𝓣 code.function)
+    (append-to.clauses 𝓤 H A mem run) (WpFn 𝓤 H (𝓣 .C) (𝓣 .Λ) code.function) (WpFn-mono 𝓤 H (W .laws) 𝓣
+    code.function)
     (append-to-walks 𝓤 H A W mem run (𝓣 .C) (𝓣 .Λ) (fmOf 𝓤 H (W .laws) 𝓣) known)
 
 pub append-to-spec : {M : Type 1} → stated.statement M
 unfolding code.routine tablesOf
 append-to-spec 𝓤 H 𝓜 𝓖 𝓡 =
     entered 𝓤 H (tripleOf 𝓤 H (𝓖 .A) append-to.signature (append-to.spec 𝓤 H (𝓖 .A) (𝓜 .mem) (𝓡 .run)))
-    (tables 𝓤 H 𝓜 𝓡 code.env .C) (tables 𝓤 H 𝓜 𝓡 code.env .Λ) #buffer·append-to code.function (code.unfolded 𝓤 H 𝓜 𝓡)
+    (tables 𝓤 H 𝓜 𝓡 code.env .C) (tables 𝓤 H 𝓜 𝓡 code.env .Λ) #buffer·append-to code.function (code.unfolded 𝓤 H 𝓜
+    𝓡)
     (append-to-meets 𝓤 H (𝓖 .A) (givenOf 𝓤 H 𝓜 𝓖) (𝓜 .mem) (𝓡 .run) (tablesOf 𝓤 H 𝓜 (tables 𝓤 H 𝓜 𝓡 code.env))
     (cited 𝓤 H (Append 𝓤 H (𝓖 .A) (𝓜 .mem) (𝓡 .run)) 𝓜 𝓡 code.env #buffer·append append-def.routine
     code.calls-buffer·append (append-thm.met 𝓤 H 𝓜 𝓖 𝓡)))

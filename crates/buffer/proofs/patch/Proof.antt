@@ -21,8 +21,8 @@ use contract.Running.{givenOf, tables, tablesOf}
 use types.Kit.{Given, ‵, raw, some, later, _⊛_, ⋆, _$_, _∵_, !, qed, by, move, keep, drop, use0, use1, use3, split}
 use types.Kit.{join, pick, rewrite, fsplit, fsplit3, fjoin, feqL, suffices, frame, await, done}
 use types.Part.{agg, whole, sub, look-in}
-use types.Run.{look, init, store, forget, stop, hop, fld, from, load, addr, of-opd, and-then, no-more, assigns, land}
-use types.Run.{returns, enter, alloc1, alloc0, params1, pass1, pass0, free1, free0}
+use types.Run.{look, init, store, stop, hop, fld, from, load, addr, of-opd, and-then, no-more, assigns, land}
+use types.Run.{returns, enter, alloc1, alloc0, params1, pass1, pass0, free0}
 use sound.WpLaws.{FmC, fmOf, WpFn-mono}
 use denote.RattleType.{owns}
 use denote.Laws.{Is, shows}
@@ -43,7 +43,7 @@ use denote.Triple.Table.{entered, cited}
 use denote.Triple.Walked.{says, needs, Stays, stay-ref, stay-none, gave-slice, walkOf, goes-ref, goes-none}
 use denote.Triple.Walked.{goes-gave-slice, Walks, ends-at, walked, walk-meets}
 use denote.Exit.{yes}
-use Rattle.walks.proofs.Operands.{itself, local}
+use Rattle.walks.proofs.Operands.{itself, local, gone}
 use Rattle.walks.proofs.Whole.{opens-whole, closes-whole}
 use Rattle.rules.specs.Columns.{pushListItem}
 use Rattle.codes.specs.declared.TokenId.{TokenId}
@@ -159,15 +159,17 @@ module _ {M : Type 1} (𝓤 : URA M) (H : Heap 𝓤) (A : Atoms 𝓤) (W : Given
       (column ls ∷ [])) ∷ toks κ κ₁ κ₂ q q₁ q₂ x ks ls 𝓤 ∷ []) ∵ says ! slots $
       nothing ! $ owned ! N.the-row (Is N.the-row) (EL.makes N.the-type N′.the-plain 𝓤 H A) (h .list) _
       (LL.owed P.the-type P′.the-laws h _ was .1 .0) $ fjoin ! $
-      owned ! u32 (Is u32) (uint-makes 𝓤 H A W w32) (h .count) _ (refl, LL.owed P.the-type P′.the-laws h _ was .0 .1) $
-      fjoin ! $ owned ! I.the-row (Is I.the-row) (LL.makes I.the-type I′.the-plain 𝓤 H A) c _ c-is $ fjoin ! $
+      owned ! u32 (Is u32) (uint-makes 𝓤 H A W w32) (h .count) _
+      (refl, LL.owed P.the-type P′.the-laws h _ was .0 .1) $ fjoin ! $ owned ! I.the-row (Is I.the-row)
+      (LL.makes I.the-type I′.the-plain 𝓤 H A) c _ c-is $ fjoin ! $
       move ! (2 ∷ 0 ∷ []) $ fjoin ! $ move ! (1 ∷ 0 ∷ []) $ fjoin ! $ move ! (1 ∷ 0 ∷ []) $ frame ! $ done !
 
   abbrev Last : Type 0
   Last = List ℕ × (List ℕ × (Unit {0} × (Unit {0} × (Unit {0} × Unit {0}))))
 
   abbrev Said : Listed → Last → Type 0
-  Said r ws = As listed (pushListItem (ends (h .list))) (c .0) (nodes (now ks) (now ls) (h .count)) r (ws .0) (ws .1 .0)
+  Said r ws = As listed (pushListItem (ends (h .list))) (c .0) (nodes (now ks) (now ls) (h .count)) r (ws .0)
+      (ws .1 .0)
 
   -- the call of `after_item`
   abbrev to-after : Listed → Val → After 𝓤 H A mem run .Ghost
@@ -183,21 +185,23 @@ module _ {M : Type 1} (𝓤 : URA M) (H : Heap 𝓤) (A : Atoms 𝓤) (W : Given
 
   after-said : (r : Listed) (p : ParseBuffer) → ent 𝓤 (ensured 𝓤 H A after.ended (after.clauses 𝓤 H A mem run) tt
       (h, (r, tt)) tt p) (fact 𝓤 (p ≡ relisted h r))
-  after-said r p = exE 𝓤 _ (λ ws. snd∗ 𝓤 (sem 𝓤 H A (lasts after.ended tt (h, (r, tt)) ws)) (fact 𝓤 (p ≡ relisted h r)))
+  after-said r p = exE 𝓤 _ (λ ws. snd∗ 𝓤 (sem 𝓤 H A (lasts after.ended tt (h, (r, tt)) ws))
+      (fact 𝓤 (p ≡ relisted h r)))
 
   exits :
       (r : Listed) (u : Val) (ws : Last) (p : ParseBuffer) → Said r ws → length (ws .0) ≡ length (ks .now) → length
       (ws .1 .0) ≡ length (ls .now) → p ≡ relisted h r →
-      ent 𝓤 (⋆ 𝓤 H A (Ends κ κ₁ κ₂ q q₁ q₂ x ks ls 𝓤 p (ws .0) (ws .1 .0) Plain (R.the-row .own r (u ∷ [])))) (Post u)
+      ent 𝓤 (⋆ 𝓤 H A (Ends κ κ₁ κ₂ q q₁ q₂ x ks ls 𝓤 p (ws .0) (ws .1 .0) Plain (R.the-row .own r (u ∷ []))))
+      (Post u)
   exits r u ws p e l₁ l₂ e′ =
       qed W (Ends κ κ₁ κ₂ q q₁ q₂ x ks ls 𝓤 p (ws .0) (ws .1 .0) Plain (R.the-row .own r (u ∷ []))) ∵
       suffices ! _ (ends-at 𝓤 H A patch.ended stayed (patch.clauses 𝓤 H A mem run) W bound u r
       (p, (ws .0, (ws .1 .0, (tt, tt)))) (tt, (l₁, (l₂, (tt, tt))))) $
-      says ! (record { item = e; buffer = e′ }) $ by ! (had κ κ₁ κ₂ q q₁ q₂ x ks ls 𝓤 H A W p (ws .0) (ws .1 .0) Plain
-      (R.the-row .own r (u ∷ [])))
+      says ! (record { item = e; buffer = e′ }) $ by ! (had κ κ₁ κ₂ q q₁ q₂ x ks ls 𝓤 H A W p (ws .0) (ws .1 .0)
+      Plain (R.the-row .own r (u ∷ [])))
 
-  module _ (C : Calls 𝓤 H) (Λ : Loops 𝓤 H) (fm : FmC 𝓤 H (W .laws) C) (known : Triple 𝓤 (C #core) (Core 𝓤 H A mem run))
-      (known-after : Triple 𝓤 (C #after) (After 𝓤 H A mem run)) where
+  module _ (C : Calls 𝓤 H) (Λ : Loops 𝓤 H) (fm : FmC 𝓤 H (W .laws) C) (known : Triple 𝓤 (C #core)
+      (Core 𝓤 H A mem run)) (known-after : Triple 𝓤 (C #after) (After 𝓤 H A mem run)) where
     walk :
         Is (MutSlice (named 1) κ₁ u8) ks (column ks ∷ []) → Is (MutSlice (named 2) κ₂ u32) ls (column ls ∷ []) →
         ent 𝓤 (onEntry 𝓤 H A patch.signature κs qs args vals) (WpFn 𝓤 H C Λ code.function (vptr b o ∷ column ks ∷
@@ -209,30 +213,32 @@ module _ {M : Type 1} (𝓤 : URA M) (H : Heap 𝓤) (A : Atoms 𝓤) (W : Given
         alloc1 ! (λ l₀. alloc1 ! (λ l₁. alloc1 ! (λ l₂. alloc1 ! (λ l₃. alloc1 ! (λ l₄. alloc1 ! (λ l₅. alloc1
         ! (λ l₆. alloc1 ! (λ l₇. alloc1 ! (λ l₈. alloc1 ! (λ l₉. alloc1 ! (λ l₁₀. alloc1 ! (λ l₁₁. alloc0 ! $
         params1 ! $
-        pass1 ! (init ! 20 refl (tt, tt)) $ pass1 ! (init ! 18 refl (mut-slice-lawful 𝓤 H A W (named 1) κ₁ u8 .typed ks
-        _ ks-is .0)) $ pass1 ! (init ! 16 refl (mut-slice-lawful 𝓤 H A W (named 2) κ₂ u32 .typed ls _ ls-is .0)) $
+        pass1 ! (init ! 20 refl (tt, tt)) $ pass1 ! (init ! 18 refl (mut-slice-lawful 𝓤 H A W (named 1) κ₁
+        u8 .typed ks _ ks-is .0)) $ pass1 ! (init ! 16 refl (mut-slice-lawful 𝓤 H A W (named 2) κ₂ u32 .typed ls _
+        ls-is .0)) $
         pass1 ! (init ! 14 refl (LL.lawful I.the-type I′.the-laws 𝓤 H A W .typed c _ c-is .0)) $ pass0 ! $
         -- the borrow is opened
         move ! (25 ∷ []) $ fsplit ! $ fsplit3 ! $ drop ! $ move ! (27 ∷ []) $ split ! $ move ! (2 ∷ 3 ∷ 0 ∷ []) $
         opens-whole ! tt buffer h b o (λ was.
-        -- [the record's cell; what it owns; the open borrow; obs; auth; the columns' tokens; what the other parameters
-        -- own; _11; …; _10; …; _9; …; _8; …; _7; …; _6; …; _5; …; _4; …; _3; …; _2; …; _1; …; room for _0; …]
+        -- [the record's cell; what it owns; the open borrow; obs; auth; the columns' tokens; what the other
+        -- parameters own; _11; …; _10; …; _9; …; _8; …; _7; …; _6; …; _5; …; _4; …; _3; …; _2; …; _1; …; room for
+        -- _0; …]
         assigns ! (of-opd ! (load ! (from ! (hop ! (look ! 27 refl) (stop !))) (look ! 0 refl))) (itself !)
         (init ! 19 refl (LL.lawful P.the-type P′.the-laws 𝓤 H A W .typed h _ was .0)) $
-        assigns ! (addr ! (from ! (fld ! refl (hop ! (look-in ! 25 (sub ! 0 refl (whole !))) (stop !))))) (itself !)
-        (init ! 15 refl (tt, tt)) $
+        assigns ! (addr ! (from ! (fld ! refl (hop ! (look-in ! 25 (sub ! 0 refl (whole !))) (stop !)))))
+        (itself !) (init ! 15 refl (tt, tt)) $
         assigns ! (agg ! (and-then ! (local ! 15 refl) (and-then ! (load ! (from ! (fld ! refl (stop !)))
-        (look-in ! 25 (sub ! 1 refl (whole !)))) (no-more !)))) (itself !) (init ! 13 refl (mut-slice-lawful 𝓤 H A W
-        (named 1) κ₁ u8 .typed ks _ ks-is .0)) $
-        assigns ! (addr ! (from ! (fld ! refl (hop ! (look-in ! 23 (sub ! 0 refl (whole !))) (stop !))))) (itself !)
-        (init ! 11 refl (tt, tt)) $
+        (look-in ! 25 (sub ! 1 refl (whole !)))) (no-more !)))) (itself !) (init ! 13 refl (mut-slice-lawful 𝓤 H A
+        W (named 1) κ₁ u8 .typed ks _ ks-is .0)) $
+        assigns ! (addr ! (from ! (fld ! refl (hop ! (look-in ! 23 (sub ! 0 refl (whole !))) (stop !)))))
+        (itself !) (init ! 11 refl (tt, tt)) $
         assigns ! (agg ! (and-then ! (local ! 11 refl) (and-then ! (load ! (from ! (fld ! refl (stop !)))
         (look-in ! 23 (sub ! 1 refl (whole !)))) (no-more !)))) (itself !) (init ! 9 refl (mut-slice-lawful 𝓤 H A W
         (named 2) κ₂ u32 .typed ls _ ls-is .0)) $
         move ! (6 ∷ []) $ fsplit ! $ move ! (1 ∷ []) $ fsplit ! $ move ! (2 ∷ 0 ∷ 8 ∷ []) $
         use3 W (raw (Core 𝓤 H A mem run .pre to-core)) (goes-core was) $
-        -- [what the callee asks; what the cursor owns; the record's cell; what it owns; the open borrow; obs; auth;
-        -- _11; …]
+        -- [what the callee asks; what the cursor owns; the record's cell; what it owns; the open borrow; obs;
+        -- auth; _11; …]
         calls-at ! fm (Core 𝓤 H A mem run) known to-core (and-then ! (local ! 13 refl) (and-then ! (local ! 9 refl)
         (and-then ! (local ! 21 refl) (and-then ! (load ! (from ! (fld ! refl (stop !)))
         (look-in ! 19 (sub ! 0 refl (whole !)))) (and-then ! (load ! (from ! (fld ! refl (stop !)))
@@ -245,8 +251,8 @@ module _ {M : Type 1} (𝓤 : URA M) (H : Heap 𝓤) (A : Atoms 𝓤) (W : Given
         split ! $ move ! (1 ∷ []) $ heard ! (Said r ws) (λ e. fsplit ! $ fsplit ! $ move ! (1 ∷ []) $
         feqL ! (λ m₁. move ! (1 ∷ []) $ fsplit ! $ fsplit ! $ move ! (1 ∷ []) $ feqL ! (λ m₂.
         move ! (3 ∷ []) $ split ! $ move ! (1 ∷ []) $
-        -- [the answer; the columns' tokens; the loads' last list; …; the kinds'; what the cursor owns; the record's
-        -- cell; what it owns; the open borrow; obs; auth; _11; …]
+        -- [the answer; the columns' tokens; the loads' last list; …; the kinds'; what the cursor owns; the
+        -- record's cell; what it owns; the open borrow; obs; auth; _11; …]
         peeks ! R.the-row (Is R.the-row) (shows 𝓤 H A R.the-row) r (u ∷ []) (λ is.
         land ! (itself !) (init ! 21 refl (EL.lawful R.the-type R′.the-laws 𝓤 H A W tt .typed r _ is .0)) $
         use0 W (raw (After 𝓤 H A mem run .pre (to-after r u))) (goes-after r u was is) $
@@ -256,26 +262,24 @@ module _ {M : Type 1} (𝓤 : URA M) (H : Heap 𝓤) (A : Atoms 𝓤) (W : Given
         after.ended (after.clauses 𝓤 H A mem run) tt (h, (r, tt)) tt p)))) (id⊢ 𝓤 _) $ await ! tt $ pick ! (λ p.
         split ! $ move ! (1 ∷ []) $ use1 W (raw (fact 𝓤 (p ≡ relisted h r))) (after-said r p) $
         heard ! (p ≡ relisted h r) (λ e′. split ! $ move ! (1 ∷ []) $
-        -- [what the new record owns; true; the answer; the columns' tokens; the loads' last list; …; the kinds'; what
-        -- the cursor owns; the record's cell; what it owned; the open borrow; obs; auth; _11; …]
+        -- [what the new record owns; true; the answer; the columns' tokens; the loads' last list; …; the kinds';
+        -- what the cursor owns; the record's cell; what it owned; the open borrow; obs; auth; _11; …]
         peeks ! P.the-row (Is P.the-row) (shows 𝓤 H A P.the-row) p (w ∷ []) (λ is′.
         land ! (itself !) (init ! 13 refl (LL.lawful P.the-type P′.the-laws 𝓤 H A W .typed p _ is′ .0)) $
         assigns ! (of-opd ! (local ! 13 refl)) (from ! (hop ! (look ! 33 refl) (stop !))) (store ! 8 refl
         (LL.lawful P.the-type P′.the-laws 𝓤 H A W .typed p _ is′ .0)) $
         assigns ! (of-opd ! (local ! 23 refl)) (itself !) (init ! 35 refl (EL.lawful R.the-type R′.the-laws 𝓤 H A W
         tt .typed r _ is .0)) $
-        rewrite ! 8 (λ (y : Val). ‵ (fat fullShare P′.mir b o y)) (ap only (LL.tells P.the-type P′.the-laws p (w ∷ [])
-        is′)) refl $
-        rewrite ! 0 (λ (ys : List Val). ‵ (P.the-row .own p ys)) (LL.tells P.the-type P′.the-laws p (w ∷ []) is′) refl $
+        rewrite ! 8 (λ (y : Val). ‵ (fat fullShare P′.mir b o y)) (ap only (LL.tells P.the-type P′.the-laws p
+        (w ∷ []) is′)) refl $
+        rewrite ! 0 (λ (ys : List Val). ‵ (P.the-row .own p ys)) (LL.tells P.the-type P′.the-laws p (w ∷ []) is′)
+        refl $
         -- the borrow is closed
         move ! (8 ∷ 0 ∷ 10 ∷ 11 ∷ 12 ∷ []) $ closes-whole ! tt buffer p b o $
-        returns ! (look ! 33 refl) $ forget ! 11 refl $ forget ! 13 refl $ forget ! 15 refl $ forget ! 17 refl $
-        forget ! 19 refl $ forget ! 21 refl $ forget ! 23 refl $ forget ! 25 refl $ forget ! 27 refl $
-        forget ! 29 refl $ forget ! 31 refl $ forget ! 33 refl $
-        move ! (33 ∷ 34 ∷ []) $ free1 ! $ move ! (31 ∷ 32 ∷ []) $ free1 ! $ move ! (29 ∷ 30 ∷ []) $ free1 ! $
-        move ! (27 ∷ 28 ∷ []) $ free1 ! $ move ! (25 ∷ 26 ∷ []) $ free1 ! $ move ! (23 ∷ 24 ∷ []) $ free1 ! $
-        move ! (21 ∷ 22 ∷ []) $ free1 ! $ move ! (19 ∷ 20 ∷ []) $ free1 ! $ move ! (17 ∷ 18 ∷ []) $ free1 ! $
-        move ! (15 ∷ 16 ∷ []) $ free1 ! $ move ! (13 ∷ 14 ∷ []) $ free1 ! $ move ! (11 ∷ 12 ∷ []) $ free1 ! $ free0 ! $
+        returns ! (look ! 33 refl) $
+        gone ! 33 refl refl $ gone ! 31 refl refl $ gone ! 29 refl refl $ gone ! 27 refl refl $
+        gone ! 25 refl refl $ gone ! 23 refl refl $ gone ! 21 refl refl $ gone ! 19 refl refl $
+        gone ! 17 refl refl $ gone ! 15 refl refl $ gone ! 13 refl refl $ gone ! 11 refl refl $ free0 ! $
         keep ! (0 ∷ 1 ∷ 2 ∷ 4 ∷ 5 ∷ 6 ∷ 8 ∷ 9 ∷ []) $ by ! (exits r u ws p e m₁ m₂ e′)))))))))))))))))))))))))
 
 module _ {M : Type 1} (𝓤 : URA M) (H : Heap 𝓤) (A : Atoms 𝓤) (W : Given 𝓤 H A) (mem : Memory → SProp 𝓤)
@@ -321,7 +325,7 @@ patch-spec 𝓤 H 𝓜 𝓖 𝓡 =
     entered 𝓤 H (tripleOf 𝓤 H (𝓖 .A) patch.signature (patch.spec 𝓤 H (𝓖 .A) (𝓜 .mem) (𝓡 .run)))
     (tables 𝓤 H 𝓜 𝓡 code.env .C) (tables 𝓤 H 𝓜 𝓡 code.env .Λ) #buffer·patch code.function (code.unfolded 𝓤 H 𝓜 𝓡)
     (patch-meets 𝓤 H (𝓖 .A) (givenOf 𝓤 H 𝓜 𝓖) (𝓜 .mem) (𝓡 .run) (tablesOf 𝓤 H 𝓜 (tables 𝓤 H 𝓜 𝓡 code.env))
-    (cited 𝓤 H (Core 𝓤 H (𝓖 .A) (𝓜 .mem) (𝓡 .run)) 𝓜 𝓡 code.env #core core-def.routine code.calls-nodes·push-list-item
-    (core-thm.met 𝓤 H 𝓜 𝓖 𝓡))
-    (cited 𝓤 H (After 𝓤 H (𝓖 .A) (𝓜 .mem) (𝓡 .run)) 𝓜 𝓡 code.env #after after-def.routine code.calls-buffer·after-item
-    (after-thm.met 𝓤 H 𝓜 𝓖 𝓡)))
+    (cited 𝓤 H (Core 𝓤 H (𝓖 .A) (𝓜 .mem) (𝓡 .run)) 𝓜 𝓡 code.env #core core-def.routine
+    code.calls-nodes·push-list-item (core-thm.met 𝓤 H 𝓜 𝓖 𝓡))
+    (cited 𝓤 H (After 𝓤 H (𝓖 .A) (𝓜 .mem) (𝓡 .run)) 𝓜 𝓡 code.env #after after-def.routine
+    code.calls-buffer·after-item (after-thm.met 𝓤 H 𝓜 𝓖 𝓡)))

@@ -46,7 +46,7 @@ use denote.Triple.Table.{entered, cited}
 use denote.Triple.Walked.{says, needs, Stays, stay-none, stay-none-slice, walkOf, goes-none, goes-none-slice}
 use denote.Triple.Walked.{Walks, ends-at, walked, walk-meets}
 use denote.Exit.{yes}
-use Rattle.walks.proofs.Operands.{itself, local}
+use Rattle.walks.proofs.Operands.{itself, local, gone}
 use Rattle.walks.proofs.Whole.{Cell}
 use Rattle.walks.proofs.Lent.{ref, Ref, Short, Long, LentWithin, lends-within, back-within}
 use Rattle.rules.specs.Codes.Limit as Most
@@ -312,13 +312,10 @@ module _ {M : Type 1} (𝓤 : URA M) (H : Heap 𝓤) (A : Atoms 𝓤) (W : Given
         (back-within (reader κ) l₆ κ q 𝓤 H A W (ts .0) μ δ) $ await ! tt $ split ! $ move ! (1 ∷ []) $ split ! $
         -- [what the reader owns; the token; its cell; true; the answer; true; true; true; true; what the row and
         -- the cursor own; _10; …]
-        returns ! (look ! 29 refl) $ forget ! 2 refl $ forget ! 10 refl $ forget ! 12 refl $ forget ! 14 refl $
-        forget ! 16 refl $ forget ! 19 refl $ forget ! 21 refl $ forget ! 23 refl $ forget ! 25 refl $
-        forget ! 27 refl $ forget ! 29 refl $
-        move ! (29 ∷ 30 ∷ []) $ free1 ! $ move ! (27 ∷ 28 ∷ []) $ free1 ! $ move ! (25 ∷ 26 ∷ []) $ free1 ! $
-        move ! (23 ∷ 24 ∷ []) $ free1 ! $ move ! (21 ∷ 22 ∷ []) $ free1 ! $ move ! (19 ∷ 20 ∷ []) $ free1 ! $
-        move ! (2 ∷ 18 ∷ []) $ free1 ! $ move ! (15 ∷ 16 ∷ []) $ free1 ! $ move ! (13 ∷ 14 ∷ []) $ free1 ! $
-        move ! (11 ∷ 12 ∷ []) $ free1 ! $ move ! (9 ∷ 10 ∷ []) $ free1 ! $ free0 ! $
+        returns ! (look ! 29 refl) $
+        gone ! 29 refl refl $ gone ! 27 refl refl $ gone ! 25 refl refl $ gone ! 23 refl refl $
+        gone ! 21 refl refl $ gone ! 19 refl refl $ forget ! 2 refl $ move ! (2 ∷ 18 ∷ []) $ free1 ! $
+        gone ! 15 refl refl $ gone ! 13 refl refl $ gone ! 11 refl refl $ gone ! 9 refl refl $ free0 ! $
         move ! (1 ∷ 2 ∷ []) $ join ! $ keep ! (0 ∷ 2 ∷ 7 ∷ []) $
         by ! (exits g y (answered r (rs .0) (ts .0) e e′ e″)))))))))))))))))))))))))))))))
 

@@ -20,8 +20,8 @@ use contract.Running.{givenOf, tables, tablesOf}
 use types.Kit.{Given, ‵, raw, some, later, _⊛_, ⋆, _$_, _∵_, !, qed, by, move, keep, drop, use1, use2, split, join}
 use types.Kit.{pick, rewrite, fsplit, fsplit3, fjoin, fjoin3, feqI, suffices, frame, await, done}
 use types.Part.{whole, sub, look-in, store-in}
-use types.Run.{look, init, forget, stop, hop, fld, from, load, of-opd, and-then, no-more, assigns, land, returns}
-use types.Run.{enter, alloc1, alloc0, params1, pass1, pass0, free1, free0}
+use types.Run.{look, init, stop, hop, fld, from, load, of-opd, and-then, no-more, assigns, land, returns, enter}
+use types.Run.{alloc1, alloc0, params1, pass1, pass0, free0}
 use types.SemTy.{Body}
 use sound.WpLaws.{FmC, fmOf, WpFn-mono}
 use denote.RattleType.{owns}
@@ -42,7 +42,7 @@ use denote.Triple.Table.{entered, cited}
 use denote.Triple.Walked.{says, needs, Stays, stay-ref, stay-none, walkOf, goes-ref, goes-none, Walks, ends-at}
 use denote.Triple.Walked.{walked, walk-meets}
 use denote.Exit.{yes}
-use Rattle.walks.proofs.Operands.{itself, local}
+use Rattle.walks.proofs.Operands.{itself, local, gone}
 use Rattle.walks.proofs.Whole.{opens-whole}
 use Rattle.rules.specs.Codes.Limit as Most
 use Rattle.codes.proofs.TokenId.Laws as I′
@@ -176,10 +176,9 @@ module _ {M : Type 1} (𝓤 : URA M) (H : Heap 𝓤) (A : Atoms 𝓤) (W : Given
         -- the borrow is closed at the new cursor
         drop ! $ move ! (2 ∷ 1 ∷ 3 ∷ 4 ∷ 5 ∷ []) $ closes-reader ! tt h (r .cursor) (LL.owed R.the-type R′.the-laws
         r _ is .1 .0) b o $
-        returns ! (look ! 15 refl) $ forget ! 5 refl $ forget ! 7 refl $ forget ! 9 refl $ forget ! 11 refl $
-        forget ! 13 refl $ forget ! 15 refl $
-        move ! (15 ∷ 16 ∷ []) $ free1 ! $ move ! (13 ∷ 14 ∷ []) $ free1 ! $ move ! (11 ∷ 12 ∷ []) $ free1 ! $
-        move ! (9 ∷ 10 ∷ []) $ free1 ! $ move ! (7 ∷ 8 ∷ []) $ free1 ! $ move ! (5 ∷ 6 ∷ []) $ free1 ! $ free0 ! $
+        returns ! (look ! 15 refl) $
+        gone ! 15 refl refl $ gone ! 13 refl refl $ gone ! 11 refl refl $ gone ! 9 refl refl $ gone ! 7 refl refl $
+        gone ! 5 refl refl $ free0 ! $
         keep ! (0 ∷ 1 ∷ 2 ∷ 3 ∷ []) $ by ! (exits r e))))))))))))
 
 module _ {M : Type 1} (𝓤 : URA M) (H : Heap 𝓤) (A : Atoms 𝓤) (W : Given 𝓤 H A) (mem : Memory → SProp 𝓤)

@@ -18,10 +18,9 @@ use prog.Wp.{Heap, Calls, Loops, WpFn, Tables}
 use ghost.Atoms.{Atoms}
 use contract.Monad.{Fun}
 use contract.Running.{givenOf, tables, tablesOf}
-use types.Kit.{Given, ‵, raw, _⊛_, _$_, _∵_, !, qed, by, move, use1, split, suffices, frame}
+use types.Kit.{Given, ‵, raw, _⊛_, _$_, _∵_, !, qed, by, use1, split, suffices, frame}
 use types.Part.{agg}
-use types.Run.{look, init, forget, and-then, no-more, assigns, returns, enter, alloc1, alloc0, params1, pass1}
-use types.Run.{pass0, free1, free0}
+use types.Run.{look, init, and-then, no-more, assigns, returns, enter, alloc1, alloc0, params1, pass1, pass0, free0}
 use sound.WpLaws.{WpFn-mono}
 use denote.Laws.{Is}
 use denote.Builtin.{u8}
@@ -35,7 +34,7 @@ use denote.Triple.Table.{entered}
 use denote.Triple.Walked.{says, Stays, stay-none, stay-none-slice, walkOf, goes-none, goes-none-slice, Walks}
 use denote.Triple.Walked.{ends-at, walked, walk-meets}
 use denote.Exit.{yes}
-use Rattle.walks.proofs.Operands.{itself, local}
+use Rattle.walks.proofs.Operands.{itself, local, gone}
 use Rattle.codes.specs.declared.TokenId.{TokenId}
 use Rattle.codes.proofs.TokenId as I
 use Rattle.codes.proofs.TokenId.Laws as I′
@@ -91,9 +90,8 @@ module _ {M : Type 1} (𝓤 : URA M) (H : Heap 𝓤) (A : Atoms 𝓤) (W : Given
         pass1 ! (init ! 4 refl wt) $ pass1 ! (init ! 2 refl wt′) $ pass1 ! (init ! 0 refl wt″) $ pass0 ! $
         assigns ! (agg ! (and-then ! (local ! 4 refl) (and-then ! (local ! 2 refl) (and-then ! (local ! 0 refl)
         (no-more !))))) (itself !) (init ! 6 refl (tt, (wt .1, (wt′ .1, (wt″ .1, tt))))) $
-        returns ! (look ! 6 refl) $ forget ! 0 refl $ forget ! 2 refl $ forget ! 4 refl $ forget ! 6 refl $
-        move ! (6 ∷ 7 ∷ []) $ free1 ! $ move ! (4 ∷ 5 ∷ []) $ free1 ! $ move ! (2 ∷ 3 ∷ []) $ free1 ! $ free1 ! $
-        free0 ! $ by ! exits))))
+        returns ! (look ! 6 refl) $
+        gone ! 6 refl refl $ gone ! 4 refl refl $ gone ! 2 refl refl $ gone ! 0 refl refl $ free0 ! $ by ! exits))))
 
 module _ {M : Type 1} (𝓤 : URA M) (H : Heap 𝓤) (A : Atoms 𝓤) (W : Given 𝓤 H A) (mem : Memory → SProp 𝓤)
     (run : Routine → Fun 𝓤) where

@@ -19,8 +19,8 @@ use contract.Running.{givenOf, tables, tablesOf}
 use types.Kit.{Given, Item, ‵, raw, some, later, _⊛_, ⋆, _$_, _∵_, !, qed, by, move, keep, drop, use1, use2, split}
 use types.Kit.{join, pick, fsplit, fsplit3, fjoin, fjoin3, feqI, suffices, frame, await, done}
 use types.Part.{whole, sub, look-in}
-use types.Run.{look, init, forget, stop, hop, fld, from, load, of-opd, and-then, no-more, assigns, land, returns}
-use types.Run.{enter, alloc1, alloc0, params1, pass1, pass0, free1, free0}
+use types.Run.{look, init, stop, hop, fld, from, load, of-opd, and-then, no-more, assigns, land, returns, enter}
+use types.Run.{alloc1, alloc0, params1, pass1, pass0, free0}
 use sound.WpLaws.{FmC, fmOf, WpFn-mono}
 use denote.RattleType.{owns}
 use denote.Laws.{Is, shows}
@@ -40,7 +40,7 @@ use denote.Triple.Spec.{Meets, tripleOf}
 use denote.Triple.Table.{entered, cited}
 use denote.Triple.Walked.{says, Stays, stay-none-ref, walkOf, goes-none-ref, Walks, ends-at, walked, walk-meets}
 use denote.Exit.{yes}
-use Rattle.walks.proofs.Operands.{itself, local}
+use Rattle.walks.proofs.Operands.{itself, local, gone}
 use Rattle.walks.proofs.Whole.{Cell, cell-in, cell-out}
 use Rattle.codes.proofs.TokenId.Laws as I′
 use Rattle.tokens.specs.Answer.{kindIn}
@@ -160,9 +160,8 @@ module _ {M : Type 1} (𝓤 : URA M) (H : Heap 𝓤) (A : Atoms 𝓤) (W : Given
         move ! (1 ∷ []) $
         peeks ! u8 (Is u8) (shows 𝓤 H A u8) r (u ∷ []) (λ is.
         land ! (itself !) (init ! 12 refl (uint-lawful 𝓤 H A W w8 .typed r _ is .0)) $
-        returns ! (look ! 12 refl) $ forget ! 6 refl $ forget ! 8 refl $ forget ! 10 refl $ forget ! 12 refl $
-        move ! (12 ∷ 13 ∷ []) $ free1 ! $ move ! (10 ∷ 11 ∷ []) $ free1 ! $ move ! (8 ∷ 9 ∷ []) $ free1 ! $
-        move ! (6 ∷ 7 ∷ []) $ free1 ! $ free0 ! $
+        returns ! (look ! 12 refl) $
+        gone ! 12 refl refl $ gone ! 10 refl refl $ gone ! 8 refl refl $ gone ! 6 refl refl $ free0 ! $
         keep ! (0 ∷ 1 ∷ 2 ∷ 3 ∷ 4 ∷ []) $ by ! (exits r u e)))))))))))
 
 module _ {M : Type 1} (𝓤 : URA M) (H : Heap 𝓤) (A : Atoms 𝓤) (W : Given 𝓤 H A) (mem : Memory → SProp 𝓤)

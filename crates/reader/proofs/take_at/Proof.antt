@@ -44,7 +44,7 @@ use denote.Triple.Table.{entered, cited}
 use denote.Triple.Walked.{says, needs, Stays, stay-none, stay-none-slice, walkOf, goes-none, goes-none-slice}
 use denote.Triple.Walked.{Walks, ends-at, walked, walk-meets}
 use denote.Exit.{yes}
-use Rattle.walks.proofs.Operands.{itself, local}
+use Rattle.walks.proofs.Operands.{itself, local, gone}
 use Rattle.walks.proofs.Whole.{Cell}
 use Rattle.walks.proofs.Lent.{ref, Ref, Shr, Short, Long, LentWithin, SharedWithin, lends-within, back-within}
 use Rattle.walks.proofs.Lent.{shares-within, share-back}
@@ -276,13 +276,10 @@ module _ {M : Type 1} (𝓤 : URA M) (H : Heap 𝓤) (A : Atoms 𝓤) (W : Given
         (itself !) (init ! 8 refl (tt, cursor-typed 𝓤 H A W κ (rs .0) is″)) $
         assigns ! (agg ! (and-then ! (local ! 18 refl) (and-then ! (local ! 8 refl) (no-more !)))) (itself !)
         (init ! 27 refl (tt, (record { fits = is′ .1 }, (cursor-typed 𝓤 H A W κ (rs .0) is″, tt)))) $
-        returns ! (look ! 27 refl) $ forget ! 2 refl $ forget ! 8 refl $ forget ! 10 refl $ forget ! 12 refl $
-        forget ! 14 refl $ forget ! 16 refl $ forget ! 18 refl $ forget ! 21 refl $ forget ! 23 refl $
-        forget ! 25 refl $ forget ! 27 refl $
-        move ! (27 ∷ 28 ∷ []) $ free1 ! $ move ! (25 ∷ 26 ∷ []) $ free1 ! $ move ! (23 ∷ 24 ∷ []) $ free1 ! $
-        move ! (21 ∷ 22 ∷ []) $ free1 ! $ move ! (2 ∷ 20 ∷ []) $ free1 ! $ move ! (17 ∷ 18 ∷ []) $ free1 ! $
-        move ! (15 ∷ 16 ∷ []) $ free1 ! $ move ! (13 ∷ 14 ∷ []) $ free1 ! $ move ! (11 ∷ 12 ∷ []) $ free1 ! $
-        move ! (9 ∷ 10 ∷ []) $ free1 ! $ move ! (7 ∷ 8 ∷ []) $ free1 ! $ free0 ! $
+        returns ! (look ! 27 refl) $
+        gone ! 27 refl refl $ gone ! 25 refl refl $ gone ! 23 refl refl $ gone ! 21 refl refl $ forget ! 2 refl $
+        move ! (2 ∷ 20 ∷ []) $ free1 ! $ gone ! 17 refl refl $ gone ! 15 refl refl $ gone ! 13 refl refl $
+        gone ! 11 refl refl $ gone ! 9 refl refl $ gone ! 7 refl refl $ free0 ! $
         move ! (1 ∷ 2 ∷ []) $ join ! $ keep ! (0 ∷ 5 ∷ []) $
         by ! (exits (answer k (rs .0)) (LL.owes R.the-type R′.the-laws (answer k (rs .0))
         ((refl, is′ .1), (LL.owed (D κ) (L κ) (rs .0) _ is″ .1 .1 .0, tt))) (taking r k m (rs .0) e d
