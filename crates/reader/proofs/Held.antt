@@ -110,8 +110,8 @@ module _ {M : Type 1} (𝓤 : URA M) (H : Heap 𝓤) (A : Atoms 𝓤) (W : Given
   -- the kinds and the cursor of a reader are had beside it
   pub apart : ent 𝓤 (sem 𝓤 H A (Own κ h)) (sep 𝓤 (sem 𝓤 H A (Passed κ h)) (sem 𝓤 H A (Own κ h)))
   apart =
-      qed W (‵ (Own κ h) ∷ []) ∵ use1 W (‵ (Own κ h) ⊛ ‵ (Own κ h)) both $ split ! $ use1 W (‵ (Params κ h)) unmade
-      $
+      qed W (‵ (Own κ h) ∷ []) ∵ use1 W (‵ (Own κ h) ⊛ ‵ (Own κ h)) both $ split ! $
+      use1 W (‵ (Params κ h)) unmade $
       fsplit ! $ move ! (1 ∷ []) $ fsplit ! $ drop ! $ fsplit ! $
       -- [what the cursor owns; true; what the kinds own; what the reader owns]
       move ! (1 ∷ []) $ drop ! $ move ! (1 ∷ 0 ∷ []) $ fjoin ! $ frame ! $ done !

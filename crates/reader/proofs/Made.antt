@@ -53,8 +53,8 @@ module _ {M : Type 1} (𝓤 : URA M) (H : Heap 𝓤) (A : Atoms 𝓤) (mem : Mem
       qed W ((‵ (flft κ q) ⊛ ‵ ftrue) ∷ ‵ (Params κ h) ∷ []) ∵
       move ! (1 ∷ []) $ use1 W (‵ (Params κ h) ⊛ ‵ (Params κ h)) (twice 𝓤 H A W κ h) $ split ! $
       move ! (2 ∷ 0 ∷ []) $
-      use2 W (raw (New 𝓤 H A mem run .pre to-new)) (qed W ((‵ (flft κ q) ⊛ ‵ ftrue) ∷ ‵ (Params κ h) ∷ []) ∵ join
-      ! $ frame ! $ done !) $ frame ! $ done !
+      use2 W (raw (New 𝓤 H A mem run .pre to-new)) (qed W ((‵ (flft κ q) ⊛ ‵ ftrue) ∷ ‵ (Params κ h) ∷ []) ∵
+      join ! $ frame ! $ done !) $ frame ! $ done !
 
   -- what it gives at the machine value u: the token, the reader r, and what is said of r
   abbrev pub Gave : Val → Tokens → Item 𝓤

@@ -11,8 +11,7 @@ use prog.Wp.{Heap}
 use ghost.Atoms.{Atoms}
 use contract.BorrowLft.{meet-⊑-left}
 use types.Kit.{Given, Item, ‵, raw, mean, _⊛_, ⋆, some, later, _$_, _∵_, !, qed, move, use1, use2, use3, split}
-use types.Kit.{join}
-use types.Kit.{pick, await, updating, now as at-once, show, done}
+use types.Kit.{join, pick, await, updating, now as at-once, show, done}
 use types.SemTy.{Body}
 use types.Tokens.{lft-new, lft-end, lent-back}
 use denote.Lend.{lends-ref, ref-back, lends-shr}
@@ -37,8 +36,8 @@ module _ (κ : Lft) (q : Share) where
 
     module _ (W : Given 𝓤 H A) (ν : ℕ) where
       tokens-out :
-          ent 𝓤 (⋆ 𝓤 H A (‵ (flft (ν ∷ []) fullShare) ∷ ‵ (flft κ q) ∷ [])) (⋆ 𝓤 H A (‵ (Short ν) ∷ ‵ Long ∷ Way ν ∷
-          []))
+          ent 𝓤 (⋆ 𝓤 H A (‵ (flft (ν ∷ []) fullShare) ∷ ‵ (flft κ q) ∷ [])) (⋆ 𝓤 H A (‵ (Short ν) ∷ ‵ Long ∷ Way
+          ν ∷ []))
       tokens-out =
           qed W (‵ (flft (ν ∷ []) fullShare) ∷ ‵ (flft κ q) ∷ []) ∵
           use1 W (‵ (flft (ν ∷ []) (PosShare·left q)) ⊛ Way ν) (W .lfts .lft-carve ν (PosShare·left q)) $ split ! $
@@ -52,8 +51,7 @@ module _ (κ : Lft) (q : Share) where
       tokens-back =
           qed W (‵ (Short ν) ∷ ‵ Long ∷ Way ν ∷ []) ∵ updating ! $
           use1 W (‵ (flft (ν ∷ []) (PosShare·left q)) ⊛ ‵ (flft κ (PosShare·left q))) (W .lfts .lft-unmeet (ν ∷ [])
-          κ
-          (PosShare·left q)) $ split ! $
+          κ (PosShare·left q)) $ split ! $
           move ! (1 ∷ 2 ∷ []) $ use2 W (‵ (flft κ q)) (W .lfts .lft-join κ q) $ move ! (1 ∷ 2 ∷ []) $
           use2 W (‵ (flft (ν ∷ []) fullShare)) (apply∗ 𝓤 (A .lft (ν ∷ []) (PosShare·left q))
           (A .lft (ν ∷ []) fullShare)) $ lft-end ! tt $
@@ -87,8 +85,7 @@ module _ (T : Whole) (l : ℕ) where
         use2 W (‵ (partAt (T .row) fullShare h l 0)) (lies-in T 𝓤 H A W h l 0) $
         lft-new ! tt (λ ν. move ! (1 ∷ []) $
         use1 W (later (some (λ (γ : GName). ‵ (Ref (ν ∷ []) γ h) ⊛ ‵ (Loan (ν ∷ []) γ)))) (lends-ref 𝓤 H A W
-        (T .row)
-        (named 0) (ν ∷ []) h l 0) $
+        (T .row) (named 0) (ν ∷ []) h l 0) $
         await ! tt $ pick ! (λ γ. split ! $
         at-once ! $ show ! (λ (ν : ℕ). ex 𝓤 (λ (γ : GName). mean 𝓤 H A (Lent ν γ))) ν $
         show ! (λ (γ : GName). mean 𝓤 H A (Lent ν γ)) γ $
@@ -101,8 +98,7 @@ module _ (T : Whole) (l : ℕ) where
         (H .⇛ (⋆ 𝓤 H A (‵ (Cell T fullShare h l 0) ∷ ‵ (Own T h) ∷ [])))
     comes-back ν γ =
         qed W (‵ (flft (ν ∷ []) fullShare) ∷ ‵ (Loan (ν ∷ []) γ) ∷ ‵ (fres γ (T .row .coded .code h)) ∷ []) ∵
-        updating
-        ! $ lft-end ! tt $
+        updating ! $ lft-end ! tt $
         use3 W (later (‵ (partAt (T .row) fullShare h l 0))) (ref-back 𝓤 H A W (T .row) (ν ∷ []) γ h l 0) $
         await ! tt $
         use1 W (‵ (Cell T fullShare h l 0) ⊛ ‵ (Own T h)) (lies-out T 𝓤 H A W h l 0) $ split ! $ at-once ! $ done !
@@ -133,13 +129,11 @@ module _ (T : Whole) (l : ℕ) where
           use2 W (‵ (partAt (T .row) fullShare h l 0)) (lies-in T 𝓤 H A W h l 0) $
           lft-new ! tt (λ ν. move ! (1 ∷ []) $
           use1 W (later (some (λ (γ : GName). ‵ (Ref (ν ∷ κ) γ h) ⊛ ‵ (Loan (ν ∷ κ) γ)))) (lends-ref 𝓤 H A W
-          (T .row)
-          (named 0) (ν ∷ κ) h l 0) $
+          (T .row) (named 0) (ν ∷ κ) h l 0) $
           await ! tt $ pick ! (λ γ. split ! $
           -- [the reference; the loan; ν's token; κ's token]
           move ! (2 ∷ 3 ∷ []) $ use2 W (‵ (Short κ q ν) ⊛ ‵ (Long κ q) ⊛ Way κ q 𝓤 H A ν) (tokens-out κ q 𝓤 H A W
-          ν) $
-          split ! $ move ! (1 ∷ []) $ split ! $
+          ν) $ split ! $ move ! (1 ∷ []) $ split ! $
           -- [the rest of κ's token; the way back to ν's; the token of the meet; the reference; the loan]
           at-once ! $ show ! (λ (ν : ℕ). ex 𝓤 (λ (γ : GName). mean 𝓤 H A (LentWithin h ν γ))) ν $
           show ! (λ (γ : GName). mean 𝓤 H A (LentWithin h ν γ)) γ $
@@ -150,8 +144,8 @@ module _ (T : Whole) (l : ℕ) where
           ent 𝓤 (⋆ 𝓤 H A (‵ (Short κ q ν) ∷ ‵ (Long κ q) ∷ (Kept ν γ ⊛ ‵ (fres γ (T .row .coded .code h))) ∷ []))
           (H .⇛ (⋆ 𝓤 H A (Start h)))
       back-within ν γ =
-          qed W (‵ (Short κ q ν) ∷ ‵ (Long κ q) ∷ (Kept ν γ ⊛ ‵ (fres γ (T .row .coded .code h))) ∷ []) ∵ updating
-          ! $
+          qed W (‵ (Short κ q ν) ∷ ‵ (Long κ q) ∷ (Kept ν γ ⊛ ‵ (fres γ (T .row .coded .code h))) ∷ []) ∵
+          updating ! $
           move ! (2 ∷ []) $ split ! $ split ! $ move ! (3 ∷ 4 ∷ 1 ∷ []) $
           use3 W (later (‵ (fdead (ν ∷ κ)) ⊛ ‵ (flft κ q))) (tokens-back κ q 𝓤 H A W ν) $ await ! tt $ split ! $
           -- [the end of the meet; κ's token; the loan; res]
@@ -170,8 +164,7 @@ module _ (T : Whole) (l : ℕ) where
           0))))) (lends-shr 𝓤 H A W (T .row) (named 0) (ν ∷ κ) fullShare h l 0) $
           await ! tt $ pick ! (λ γ. split ! $
           move ! (2 ∷ 3 ∷ []) $ use2 W (‵ (Short κ q ν) ⊛ ‵ (Long κ q) ⊛ Way κ q 𝓤 H A ν) (tokens-out κ q 𝓤 H A W
-          ν) $
-          split ! $ move ! (1 ∷ []) $ split ! $
+          ν) $ split ! $ move ! (1 ∷ []) $ split ! $
           at-once ! $ show ! (λ (ν : ℕ). ex 𝓤 (λ (γ : GName). mean 𝓤 H A (SharedWithin h ν γ))) ν $
           show ! (λ (γ : GName). mean 𝓤 H A (SharedWithin h ν γ)) γ $
           move ! (3 ∷ 2 ∷ 0 ∷ 4 ∷ 1 ∷ []) $ done !))

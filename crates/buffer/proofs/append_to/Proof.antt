@@ -151,8 +151,8 @@ module _ {M : Type 1} (𝓤 : URA M) (H : Heap 𝓤) (A : Atoms 𝓤) (W : Given
         ent 𝓤 (⋆ 𝓤 H A (‵ (Ref buffer l (ν ∷ []) γ h) ∷ ‵ Columns ∷ (‵ (flft (ν ∷ []) fullShare) ⊛ toks) ∷ []))
         (Append 𝓤 H A mem run .pre to)
     goes =
-        qed W (‵ (Ref buffer l (ν ∷ []) γ h) ∷ ‵ Columns ∷ (‵ (flft (ν ∷ []) fullShare) ⊛ toks) ∷ []) ∵ says
-        ! slots $ move ! (1 ∷ []) $ fsplit ! $
+        qed W (‵ (Ref buffer l (ν ∷ []) γ h) ∷ ‵ Columns ∷ (‵ (flft (ν ∷ []) fullShare) ⊛ toks) ∷ []) ∵
+        says ! slots $ move ! (1 ∷ []) $ fsplit ! $
         -- [the kinds; the loads; the reference; the tokens]
         nothing ! $ owned ! u32 (Is u32) (uint-makes 𝓤 H A W w32) n _ (refl, n-fits) $ fjoin ! $
         owned ! u8 (Is u8) (uint-makes 𝓤 H A W w8) k _ (refl, k-fits) $ fjoin ! $
@@ -196,9 +196,9 @@ module _ {M : Type 1} (𝓤 : URA M) (H : Heap 𝓤) (A : Atoms 𝓤) (W : Given
         qed W (toks ∷ ‵ (owns (MutSlice (named 0) κ₁ u8 ∷ MutSlice (named 1) κ₂ u32 ∷ I.the-row ∷ P.the-row ∷ u8 ∷
         u32 ∷ []) args vals) ∷ []) ∵
         enter ! C Λ code.function (column ks ∷ column ls ∷ I′.lowered c ∷ val h ∷ vint w8 k ∷ vint w32 n ∷ []) _ $
-        alloc1 ! (λ l₀. alloc1 ! (λ l₁. alloc1 ! (λ l₂. alloc1 ! (λ l₃. alloc1 ! (λ l₄. alloc1 ! (λ l₅. alloc1
-        ! (λ l₆. alloc1 ! (λ l₇. alloc1 ! (λ l₈. alloc1 ! (λ l₉. alloc1 ! (λ l₁₀. alloc1 ! (λ l₁₁. alloc1
-        ! (λ l₁₂. alloc1 ! (λ l₁₃. alloc1 ! (λ l₁₄. alloc0 ! $ params1 ! $
+        alloc1 ! (λ l₀. alloc1 ! (λ l₁. alloc1 ! (λ l₂. alloc1 ! (λ l₃. alloc1 ! (λ l₄. alloc1 ! (λ l₅.
+        alloc1 ! (λ l₆. alloc1 ! (λ l₇. alloc1 ! (λ l₈. alloc1 ! (λ l₉. alloc1 ! (λ l₁₀. alloc1 ! (λ l₁₁.
+        alloc1 ! (λ l₁₂. alloc1 ! (λ l₁₃. alloc1 ! (λ l₁₄. alloc0 ! $ params1 ! $
         pass1 ! (init ! 26 refl (mut-slice-lawful 𝓤 H A W (named 0) κ₁ u8 .typed ks _ ks-is .0)) $
         pass1 ! (init ! 24 refl (mut-slice-lawful 𝓤 H A W (named 1) κ₂ u32 .typed ls _ ls-is .0)) $
         pass1 ! (init ! 22 refl (LL.lawful I.the-type I′.the-laws 𝓤 H A W .typed c _ c-is .0)) $

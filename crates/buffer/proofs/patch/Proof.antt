@@ -210,9 +210,9 @@ module _ {M : Type 1} (𝓤 : URA M) (H : Heap 𝓤) (A : Atoms 𝓤) (W : Given
         qed W ((‵ (flft κ q) ⊛ toks κ κ₁ κ₂ q q₁ q₂ x ks ls 𝓤) ∷ ‵ (owns (MutRef (named 0) κ P.the-row ∷ MutSlice
         (named 1) κ₁ u8 ∷ MutSlice (named 2) κ₂ u32 ∷ I.the-row ∷ []) args vals) ∷ []) ∵
         enter ! C Λ code.function (vptr b o ∷ column ks ∷ column ls ∷ I′.lowered c ∷ []) _ $
-        alloc1 ! (λ l₀. alloc1 ! (λ l₁. alloc1 ! (λ l₂. alloc1 ! (λ l₃. alloc1 ! (λ l₄. alloc1 ! (λ l₅. alloc1
-        ! (λ l₆. alloc1 ! (λ l₇. alloc1 ! (λ l₈. alloc1 ! (λ l₉. alloc1 ! (λ l₁₀. alloc1 ! (λ l₁₁. alloc0 ! $
-        params1 ! $
+        alloc1 ! (λ l₀. alloc1 ! (λ l₁. alloc1 ! (λ l₂. alloc1 ! (λ l₃. alloc1 ! (λ l₄. alloc1 ! (λ l₅.
+        alloc1 ! (λ l₆. alloc1 ! (λ l₇. alloc1 ! (λ l₈. alloc1 ! (λ l₉. alloc1 ! (λ l₁₀.
+        alloc1 ! (λ l₁₁. alloc0 ! $ params1 ! $
         pass1 ! (init ! 20 refl (tt, tt)) $ pass1 ! (init ! 18 refl (mut-slice-lawful 𝓤 H A W (named 1) κ₁
         u8 .typed ks _ ks-is .0)) $ pass1 ! (init ! 16 refl (mut-slice-lawful 𝓤 H A W (named 2) κ₂ u32 .typed ls _
         ls-is .0)) $

@@ -132,8 +132,8 @@ module _ {M : Type 1} (𝓤 : URA M) (H : Heap 𝓤) (A : Atoms 𝓤) (W : Given
         ent 𝓤 (⋆ 𝓤 H A (‵ (Ref buffer l (ν ∷ []) γ h) ∷ ‵ Columns ∷ (‵ (flft (ν ∷ []) fullShare) ⊛ toks) ∷ []))
         (Patch 𝓤 H A mem run .pre to)
     goes =
-        qed W (‵ (Ref buffer l (ν ∷ []) γ h) ∷ ‵ Columns ∷ (‵ (flft (ν ∷ []) fullShare) ⊛ toks) ∷ []) ∵ says
-        ! slots $ move ! (1 ∷ []) $ fsplit ! $
+        qed W (‵ (Ref buffer l (ν ∷ []) γ h) ∷ ‵ Columns ∷ (‵ (flft (ν ∷ []) fullShare) ⊛ toks) ∷ []) ∵
+        says ! slots $ move ! (1 ∷ []) $ fsplit ! $
         -- [the kinds; the loads; the reference; the tokens]
         nothing ! $ owned ! I.the-row (Is I.the-row) (LL.makes I.the-type I′.the-plain 𝓤 H A) c _ c-is $ fjoin ! $
         move ! (2 ∷ 0 ∷ []) $ fjoin ! $ move ! (1 ∷ 0 ∷ []) $ fjoin ! $ move ! (1 ∷ 0 ∷ []) $ fjoin ! $
@@ -174,9 +174,9 @@ module _ {M : Type 1} (𝓤 : URA M) (H : Heap 𝓤) (A : Atoms 𝓤) (W : Given
         qed W (toks ∷ ‵ (owns (MutSlice (named 0) κ₁ u8 ∷ MutSlice (named 1) κ₂ u32 ∷ I.the-row ∷ P.the-row ∷ [])
         args vals) ∷ []) ∵
         enter ! C Λ code.function (column ks ∷ column ls ∷ I′.lowered c ∷ val h ∷ []) _ $
-        alloc1 ! (λ l₀. alloc1 ! (λ l₁. alloc1 ! (λ l₂. alloc1 ! (λ l₃. alloc1 ! (λ l₄. alloc1 ! (λ l₅. alloc1
-        ! (λ l₆. alloc1 ! (λ l₇. alloc1 ! (λ l₈. alloc1 ! (λ l₉. alloc1 ! (λ l₁₀. alloc1 ! (λ l₁₁. alloc1
-        ! (λ l₁₂. alloc0 ! $ params1 ! $
+        alloc1 ! (λ l₀. alloc1 ! (λ l₁. alloc1 ! (λ l₂. alloc1 ! (λ l₃. alloc1 ! (λ l₄. alloc1 ! (λ l₅.
+        alloc1 ! (λ l₆. alloc1 ! (λ l₇. alloc1 ! (λ l₈. alloc1 ! (λ l₉. alloc1 ! (λ l₁₀. alloc1 ! (λ l₁₁.
+        alloc1 ! (λ l₁₂. alloc0 ! $ params1 ! $
         pass1 ! (init ! 22 refl (mut-slice-lawful 𝓤 H A W (named 0) κ₁ u8 .typed ks _ ks-is .0)) $
         pass1 ! (init ! 20 refl (mut-slice-lawful 𝓤 H A W (named 1) κ₂ u32 .typed ls _ ls-is .0)) $
         pass1 ! (init ! 18 refl (LL.lawful I.the-type I′.the-laws 𝓤 H A W .typed c _ c-is .0)) $

@@ -147,8 +147,8 @@ module _ {M : Type 1} (𝓤 : URA M) (H : Heap 𝓤) (A : Atoms 𝓤) (W : Given
     walk =
         qed W ((‵ (flft κ q) ⊛ ‵ (flft κ′ q′) ⊛ ‵ ftrue) ∷ ‵ (owns (MutRef (named 0) κ (B κ′) ∷ u32 ∷ u8 ∷ []) x
         at) ∷ []) ∵ enter ! C Λ code.function (vptr b o ∷ vint w32 k ∷ vint w8 n ∷ []) _ $
-        alloc1 ! (λ l₀. alloc1 ! (λ l₁. alloc1 ! (λ l₂. alloc1 ! (λ l₃. alloc1 ! (λ l₄. alloc1 ! (λ l₅. alloc1
-        ! (λ l₆. alloc1 ! (λ l₇. alloc1 ! (λ l₈. alloc0 ! $ params1 ! $
+        alloc1 ! (λ l₀. alloc1 ! (λ l₁. alloc1 ! (λ l₂. alloc1 ! (λ l₃. alloc1 ! (λ l₄. alloc1 ! (λ l₅.
+        alloc1 ! (λ l₆. alloc1 ! (λ l₇. alloc1 ! (λ l₈. alloc0 ! $ params1 ! $
         pass1 ! (init ! 14 refl (tt, tt)) $ pass1 ! (init ! 12 refl (tt, record { fits = k-fits })) $
         pass1 ! (init ! 10 refl (tt, record { fits = n-fits })) $ pass0 ! $
         -- the borrow is opened

@@ -128,8 +128,8 @@ module _ {M : Type 1} (𝓤 : URA M) (H : Heap 𝓤) (A : Atoms 𝓤) (W : Given
     walk =
         qed W ((‵ (flft κ q) ⊛ ‵ (flft κ′ q′) ⊛ ‵ ftrue) ∷ ‵ (owns (ShrRef (named 0) κ (B κ′) ∷ []) x at) ∷ []) ∵
         enter ! C Λ code.function (vptr b o ∷ []) _ $
-        alloc1 ! (λ l₀. alloc1 ! (λ l₁. alloc1 ! (λ l₂. alloc1 ! (λ l₃. alloc0 ! $ params1 ! $
-        pass1 ! (init ! 4 refl (tt, tt)) $ pass0 ! $
+        alloc1 ! (λ l₀. alloc1 ! (λ l₁. alloc1 ! (λ l₂.
+        alloc1 ! (λ l₃. alloc0 ! $ params1 ! $ pass1 ! (init ! 4 refl (tt, tt)) $ pass0 ! $
         -- the reader is looked into
         move ! (9 ∷ []) $ fsplit ! $ fsplit3 ! $ drop ! $ move ! (11 ∷ []) $ split ! $ move ! (3 ∷ 0 ∷ []) $
         looks ! tt (B κ′) (Is (B κ′)) (shows 𝓤 H A (B κ′)) (LL.vals (D κ′) (L κ′)) (LL.tells (D κ′) (L κ′))

@@ -160,8 +160,8 @@ module _ {M : Type 1} (𝓤 : URA M) (H : Heap 𝓤) (A : Atoms 𝓤) (W : Given
         ent 𝓤 (⋆ 𝓤 H A (‵ (Ref (reader κ) l (ν ∷ κ) γ r) ∷ ‵ (Short κ q ν) ∷ ‵ (Long κ q) ∷ []))
         (Take 𝓤 H A mem run .pre to-take)
     goes-take e =
-        qed W (‵ (Ref (reader κ) l (ν ∷ κ) γ r) ∷ ‵ (Short κ q ν) ∷ ‵ (Long κ q) ∷ []) ∵ says
-        ! (subst (λ (d : TokenId). d .0 ≤ Most.Tokens + 1) (sym (e .2)) within) $
+        qed W (‵ (Ref (reader κ) l (ν ∷ κ) γ r) ∷ ‵ (Short κ q ν) ∷ ‵ (Long κ q) ∷ []) ∵ says ! (subst
+        (λ (d : TokenId). d .0 ≤ Most.Tokens + 1) (sym (e .2)) within) $
         nothing ! $ move ! (1 ∷ 0 ∷ []) $ fjoin ! $ nothing ! $ move ! (3 ∷ 0 ∷ []) $ join ! $
         move ! (2 ∷ 0 ∷ []) $ join ! $ frame ! $ done !
 
@@ -196,8 +196,8 @@ module _ {M : Type 1} (𝓤 : URA M) (H : Heap 𝓤) (A : Atoms 𝓤) (W : Given
     walk p p′ p″ =
         qed W (raw (onEntry 𝓤 H A take-at.signature (κ, tt) (q, tt) (s, (t, (c, tt))) (values h)) ∷ []) ∵
         enter ! C Λ code.function (row h ∷ v ∷ I′.lowered c ∷ []) _ $
-        alloc1 ! (λ l₀. alloc1 ! (λ l₁. alloc1 ! (λ l₂. alloc1 ! (λ l₃. alloc1 ! (λ l₄. alloc1 ! (λ l₅. alloc1
-        ! (λ l₆. alloc1 ! (λ l₇. alloc1 ! (λ l₈. alloc1 ! (λ l₉. alloc1 ! (λ l₁₀. alloc0 ! $ params1 ! $
+        alloc1 ! (λ l₀. alloc1 ! (λ l₁. alloc1 ! (λ l₂. alloc1 ! (λ l₃. alloc1 ! (λ l₄. alloc1 ! (λ l₅.
+        alloc1 ! (λ l₆. alloc1 ! (λ l₇. alloc1 ! (λ l₈. alloc1 ! (λ l₉. alloc1 ! (λ l₁₀. alloc0 ! $ params1 ! $
         pass1 ! (init ! 18 refl (shr-slice-lawful 𝓤 H A W (named 0) κ u8 .typed s (row h ∷ []) p .0)) $
         pass1 ! (init ! 16 refl (shr-slice-lawful 𝓤 H A W (named 0) κ u8 .typed t (v ∷ []) p′ .0)) $
         pass1 ! (init ! 14 refl (LL.lawful I.the-type I′.the-laws 𝓤 H A W .typed c (I′.lowered c ∷ []) p″ .0)) $
