@@ -1,0 +1,22 @@
+-- The record after an acceptance. After a refusal it is the one before, as the answers say by computing.
+use mathlib.Core.Path.{_≡_, refl}
+use Prim.Native.Nat.{ℕ}
+use Rattle.codes.specs.declared.NodeId.{NodeId}
+use Rattle.codes.specs.declared.TokenId.{TokenId}
+use Rattle.codes.specs.declared.Parsed.{Parsed}
+use Rattle.codes.specs.declared.Parsed.the-variants.{Node}
+use Rattle.nodes.specs.declared.ActiveList.{ActiveList}
+use Rattle.nodes.specs.declared.Listed.{Listed}
+use Rattle.nodes.specs.declared.Listed.the-variants.{List as Items}
+use Rattle.buffer.specs.declared.ParseBuffer.{ParseBuffer}
+use Rattle.buffer.specs.Answer.{counted, relisted}
+
+pub pushed :
+    (b : ParseBuffer) {r : Parsed} {a : NodeId} {c : TokenId} {n : ℕ} → r ≡ Node a c n →
+    record { count = n; list = b .list } ≡ counted b r
+pushed b q = rw q refl
+
+pub extended :
+    (b : ParseBuffer) {r : Listed} {l : ActiveList} {c : TokenId} {n : ℕ} → r ≡ Items l c n →
+    record { count = n; list = l } ≡ relisted b r
+extended b q = rw q refl

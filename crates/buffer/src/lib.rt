@@ -1,0 +1,141 @@
+// The node count and the open list in one record, which is lent to append and patch, after the Rust's &mut ParseBuffer.
+// Each takes the record apart, calls the function of crate nodes, and stores what that leaves. A caller that has the
+// record by value uses the functions at the end.
+ghost use mathlib.Core.Path.{_≡_};
+ghost use Prim.Native.Nat.{_≤_};
+ghost use Rattle.nodes.specs.Answer.{Slots, past};
+ghost use Rattle.buffer.specs.Answer.{counted, relisted, Appends, Patches};
+use codes::Parsed;
+use codes::TokenId;
+use nodes::ActiveList;
+use nodes::Listed;
+
+// How many nodes there are, and the list whose end is yet to come.
+pub struct ParseBuffer {
+    pub count: u32,
+    pub list: ActiveList,
+}
+
+// What is answered for a node, and the record then.
+pub struct Appended {
+    pub reply: Parsed,
+    pub buffer: ParseBuffer,
+}
+
+// What is answered for an item, and the record then.
+pub struct Patched {
+    pub reply: Listed,
+    pub buffer: ParseBuffer,
+}
+
+// The record after a node was appended, or refused.
+fn after_push(buffer: ParseBuffer, reply: Parsed) -> ParseBuffer
+    ensures { λ r. ⌜ r ≡ counted buffer reply ⌝ }
+{
+    let list = buffer.list;
+    match reply {
+        Parsed::Node {
+            root: _,
+            cursor: _,
+            count,
+        } => ParseBuffer { count, list },
+        Parsed::Refused {
+            number: _,
+            start: _,
+            end: _,
+            cursor: _,
+            count: _,
+        } => buffer,
+    }
+}
+
+// The record after an item was appended and the one before it patched, or the item refused.
+fn after_item(buffer: ParseBuffer, reply: Listed) -> ParseBuffer
+    ensures { λ r. ⌜ r ≡ relisted buffer reply ⌝ }
+{
+    match reply {
+        Listed::List {
+            list,
+            cursor: _,
+            count,
+        } => ParseBuffer { count, list },
+        Listed::Full { refusal: _ } => buffer,
+    }
+}
+
+// A node is appended.
+pub fn append(
+    buffer: &mut ParseBuffer,
+    node_kinds: &mut [u8],
+    node_loads: &mut [u32],
+    cursor: TokenId,
+    kind: u8,
+    load: u32,
+) -> Parsed
+    requires { ⌜ Slots (now «node_kinds») (now «node_loads») (now buffer .count) ⌝ }
+    ensures { λ r. ⌜ Appends (cursor .0) (now (buffer .entry)) (now («node_kinds» .entry)) (now («node_loads» .entry))
+        kind load r (now (buffer .exit)) (now («node_kinds» .exit)) (now («node_loads» .exit)) ⌝ }
+{
+    let before = *buffer;
+    let reply = nodes::push(node_kinds, node_loads, cursor, before.count, kind, load);
+    *buffer = after_push(before, reply);
+    reply
+}
+
+// An item is appended after its content, unfinished, and the one before it is patched.
+pub fn patch(
+    buffer: &mut ParseBuffer,
+    node_kinds: &mut [u8],
+    node_loads: &mut [u32],
+    cursor: TokenId,
+) -> Listed
+    requires { ⌜ Slots (now «node_kinds») (now «node_loads») (now buffer .count)
+        × (past (now buffer .list) ≤ now buffer .count) ⌝ }
+    ensures { λ r. ⌜ Patches (cursor .0) (now (buffer .entry)) (now («node_kinds» .entry)) (now («node_loads» .entry))
+        r (now (buffer .exit)) (now («node_kinds» .exit)) (now («node_loads» .exit)) ⌝ }
+{
+    let before = *buffer;
+    let reply = nodes::push_list_item(node_kinds, node_loads, cursor, before.count, before.list);
+    *buffer = after_item(before, reply);
+    reply
+}
+
+// A node is appended with a record that is passed and returned by value.
+pub fn append_to(
+    node_kinds: &mut [u8],
+    node_loads: &mut [u32],
+    cursor: TokenId,
+    buffer: ParseBuffer,
+    kind: u8,
+    load: u32,
+) -> Appended
+    requires { ⌜ Slots (now «node_kinds») (now «node_loads») (buffer .count) ⌝ }
+    ensures { λ r. ⌜ Appends (cursor .0) buffer (now («node_kinds» .entry)) (now («node_loads» .entry))
+        kind load (r .reply) (r .buffer) (now («node_kinds» .exit)) (now («node_loads» .exit)) ⌝ }
+{
+    let mut lent = buffer;
+    let reply = append(&mut lent, node_kinds, node_loads, cursor, kind, load);
+    Appended {
+        reply,
+        buffer: lent,
+    }
+}
+
+// An item is appended and the one before it patched, likewise.
+pub fn patch_in(
+    node_kinds: &mut [u8],
+    node_loads: &mut [u32],
+    cursor: TokenId,
+    buffer: ParseBuffer,
+) -> Patched
+    requires { ⌜ Slots (now «node_kinds») (now «node_loads») (buffer .count) × (past (buffer .list) ≤ buffer .count) ⌝ }
+    ensures { λ r. ⌜ Patches (cursor .0) buffer (now («node_kinds» .entry)) (now («node_loads» .entry))
+        (r .reply) (r .buffer) (now («node_kinds» .exit)) (now («node_loads» .exit)) ⌝ }
+{
+    let mut lent = buffer;
+    let reply = patch(&mut lent, node_kinds, node_loads, cursor);
+    Patched {
+        reply,
+        buffer: lent,
+    }
+}

@@ -1,0 +1,25 @@
+-- `lent_rows::lists::list_by_record` meets its contract: it begins with no item.
+use Rattle.lent_rows.proofs.Items.{none-fits, from-none}
+use borrow.Author.Needs.{needs}
+use Rattle.lent_rows.proofs.lists.list_by_record.Statement.{statement}
+use Rattle.lent_rows.proofs.lists.list_by_record.Tie as tie
+
+start-list-requires : tie.Need-start-list-requires
+start-list-requires c κs = search needs
+
+items-by-record-requires : tie.Need-items-by-record-requires
+items-by-record-requires c κs = (search (needs, none-fits), search needs)
+
+same-length : tie.Need-same-length
+same-length c = search needs
+
+same-length-2 : tie.Need-same-length-2
+same-length-2 c = search needs
+
+returns : tie.Need-returns
+returns c = search (needs, from-none)
+
+pub list-by-record-spec : {M : Type 1} → statement M
+list-by-record-spec =
+    tie.close
+    (tie.spec start-list-requires items-by-record-requires same-length same-length-2 returns)

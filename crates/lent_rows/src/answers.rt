@@ -1,0 +1,146 @@
+// The answers as numbers, which are printed and compared.
+ghost use mathlib.Core.Bool.{true};
+ghost use mathlib.Core.Path.{_≡_};
+ghost use Prim.Native.Nat.{_≤_};
+ghost use Rattle.rules.specs.Codes.Limit as Most;
+ghost use Rattle.codes.specs.Answer.{Quiet};
+ghost use Rattle.tokens.specs.Answer.{consumed};
+ghost use Rattle.reader.specs.Answer.{ending};
+ghost use Rattle.lent_rows.specs.Numbers.{ofTaken, ofParsed, ofConsumed};
+use codes::BaseToken;
+use codes::Parsed;
+use codes::TokenId;
+use libc::STDOUT_FILENO;
+use tokens::Consumed;
+use tokens::Taken;
+
+// A refusal's five numbers. An acceptance has number 0 and its root, or a token's kind, as start and end.
+pub struct Numbers {
+    pub number: u32,
+    pub start: u32,
+    pub end: u32,
+    pub cursor: u32,
+    pub count: u32,
+}
+
+fn wide(byte: u8) -> u32
+    ensures { λ r. ⌜ r ≡ byte ⌝ }
+{
+    byte as u32
+}
+
+pub fn of_taken(taken: Taken) -> Numbers
+    ensures { λ r. ⌜ r ≡ ofTaken taken ⌝ }
+{
+    let kind = wide(taken.kind);
+    Numbers {
+        number: 0,
+        start: kind,
+        end: kind,
+        cursor: taken.cursor.0,
+        count: 0,
+    }
+}
+
+pub fn of_parsed(reply: Parsed) -> Numbers
+    ensures { λ r. ⌜ r ≡ ofParsed reply ⌝ }
+{
+    match reply {
+        Parsed::Node {
+            root,
+            cursor,
+            count,
+        } => Numbers {
+            number: 0,
+            start: root.0,
+            end: root.0,
+            cursor: cursor.0,
+            count,
+        },
+        Parsed::Refused {
+            number,
+            start,
+            end,
+            cursor,
+            count,
+        } => Numbers {
+            number: wide(number),
+            start: start.0,
+            end: end.0,
+            cursor: cursor.0,
+            count,
+        },
+    }
+}
+
+pub fn of_consumed(answer: Consumed) -> Numbers
+    ensures { λ r. ⌜ r ≡ ofConsumed answer ⌝ }
+{
+    match answer {
+        Consumed::Next { cursor, count } => Numbers {
+            number: 0,
+            start: 0,
+            end: 0,
+            cursor: cursor.0,
+            count,
+        },
+        Consumed::Wrong { refusal } => of_parsed(refusal),
+    }
+}
+
+// An optional comma and the token that closes a list, by the core.
+pub fn end_by_core(kinds: &[u8], cursor: TokenId, count: u32, closing: u8) -> Consumed
+    requires { ⌜ cursor .0 ≤ Most.Tokens ⌝ }
+    ensures { λ r. ⌜ Quiet consumed (ending closing) (now (kinds .entry)) (cursor .0) count r ⌝ }
+{
+    let comma = tokens::consume_optional(kinds, cursor, BaseToken::Comma);
+    let after = comma.cursor;
+    tokens::consume(kinds, after, count, closing)
+}
+
+// Whether two answers are the same.
+pub fn same(a: Numbers, b: Numbers) -> bool
+    ensures { λ r. ⌜ (r ≡ true → a ≡ b) ⌝ }
+{
+    if a.number != b.number {
+        return false;
+    }
+    if a.start != b.start {
+        return false;
+    }
+    if a.end != b.end {
+        return false;
+    }
+    if a.cursor != b.cursor {
+        return false;
+    }
+    if a.count != b.count {
+        return false;
+    }
+    true
+}
+
+// Says so where an answer is not the core's.
+pub fn compare(ours: Numbers, core: Numbers) {
+    if !same(ours, core) {
+        io::write_all(STDOUT_FILENO, b" differs");
+    }
+}
+
+fn print_number(number: u32) {
+    io::write_all(STDOUT_FILENO, b" ");
+    io::print_decimal(STDOUT_FILENO, number as u64);
+}
+
+// `ok` and the cursor, or `no` and number, start, end and cursor.
+pub fn print(answer: Numbers) {
+    if answer.number == 0 {
+        io::write_all(STDOUT_FILENO, b" ok");
+    } else {
+        io::write_all(STDOUT_FILENO, b" no");
+        print_number(answer.number);
+        print_number(answer.start);
+        print_number(answer.end);
+    }
+    print_number(answer.cursor);
+}

@@ -1,0 +1,98 @@
+// A reader that holds the row and its cursor, after the Rust's Tokens of parser/tokens.rs. Each of its functions takes
+// it apart and calls the function of crate tokens on the row's kinds and the cursor. A caller that has no reader uses
+// the functions at the end, whose parameters are the row and the cursor.
+ghost use mathlib.Core.Path.{_≡_};
+ghost use Prim.Native.Nat.{_+_, _≤_};
+ghost use Rattle.rules.specs.Codes.Limit as Most;
+ghost use Rattle.codes.specs.Answer.{Quiet};
+ghost use Rattle.tokens.specs.Answer.{kindIn, consumed, Taking};
+ghost use Rattle.reader.specs.Answer.{kindsOf, place, ending, Takes, Tries, Consumes};
+use codes::BaseToken;
+use codes::TokenId;
+use tokens::Consumed;
+use tokens::Taken;
+
+// The row, by its kinds and its value types, and the cursor.
+pub struct Tokens<'a> {
+    pub kinds: &'a [u8],
+    pub types: &'a [u8],
+    pub cursor: TokenId,
+}
+
+// A reader of the row from the cursor on.
+pub fn new<'a>(kinds: &'a [u8], types: &'a [u8], cursor: TokenId) -> Tokens<'a>
+    ensures { λ r. ⌜ (r .kinds ≡ kinds .entry) × (r .types ≡ types .entry) × (r .cursor ≡ cursor) ⌝ }
+{
+    Tokens {
+        kinds,
+        types,
+        cursor,
+    }
+}
+
+// The kind of the token at the cursor, EndOfSource past the row's end.
+pub fn peek<'s, 'a>(tokens: &'s Tokens<'a>) -> u8
+    ensures { λ r. ⌜ r ≡ kindIn (kindsOf (now (tokens .entry))) (place (now (tokens .entry))) ⌝ }
+{
+    tokens::peek(tokens.kinds, tokens.cursor)
+}
+
+// The token at the cursor is taken.
+pub fn take<'s, 'a>(tokens: &'s mut Tokens<'a>) -> u8
+    requires { ⌜ place (now tokens) ≤ Most.Tokens + 1 ⌝ }
+    ensures { λ r. ⌜ Takes (now (tokens .entry)) r (now (tokens .exit)) ⌝ }
+{
+    let taken = tokens::take(tokens.kinds, tokens.cursor);
+    tokens.cursor = taken.cursor;
+    taken.kind
+}
+
+// The token at the cursor is taken, and refused where it is not of the kind expected. The answer has the node count.
+pub fn consume<'s, 'a>(tokens: &'s mut Tokens<'a>, count: u32, expected: u8) -> Consumed
+    requires { ⌜ place (now tokens) ≤ Most.Tokens + 1 ⌝ }
+    ensures { λ r. ⌜ Consumes (now (tokens .entry)) expected count r (now (tokens .exit)) ⌝ }
+{
+    let consumed = tokens::consume(tokens.kinds, tokens.cursor, count, expected);
+    tokens.cursor = TokenId(tokens.cursor.0 + 1);
+    consumed
+}
+
+// The token at the cursor is taken where it is of the kind expected.
+pub fn consume_optional<'s, 'a>(tokens: &'s mut Tokens<'a>, expected: u8) -> bool
+    requires { ⌜ place (now tokens) ≤ Most.Tokens + 1 ⌝ }
+    ensures { λ r. ⌜ Tries (now (tokens .entry)) expected r (now (tokens .exit)) ⌝ }
+{
+    let optional = tokens::consume_optional(tokens.kinds, tokens.cursor, expected);
+    tokens.cursor = optional.cursor;
+    optional.found
+}
+
+// The token at the cursor is looked at and taken, by a reader.
+pub fn take_at<'a>(kinds: &'a [u8], types: &'a [u8], cursor: TokenId) -> Taken
+    requires { ⌜ cursor .0 ≤ Most.Tokens + 1 ⌝ }
+    ensures { λ r. ⌜ Taking (now (kinds .entry)) (cursor .0) r ⌝ }
+{
+    let mut reader = new(kinds, types, cursor);
+    let kind = peek(&reader);
+    take(&mut reader);
+    Taken {
+        kind,
+        cursor: reader.cursor,
+    }
+}
+
+// A comma may stand at the cursor, and then the token that closes a list must, by a reader.
+pub fn consume_end<'a>(
+    kinds: &'a [u8],
+    types: &'a [u8],
+    cursor: TokenId,
+    count: u32,
+    closing: u8,
+) -> Consumed
+    requires { ⌜ cursor .0 ≤ Most.Tokens ⌝ }
+    ensures { λ r. ⌜ Quiet consumed (ending closing) (now (kinds .entry)) (cursor .0) count r ⌝ }
+{
+    let mut reader = new(kinds, types, cursor);
+    consume_optional(&mut reader, BaseToken::Comma);
+    consume(&mut reader, count, closing)
+}
