@@ -3,14 +3,12 @@ use mathlib.Core.Path.{_≡_, refl, sym, _∙_}
 use mathlib.Core.Bool.{Bool, true, false, not, true≢false}
 use mathlib.Core.List.{List}
 use Prim.Native.Nat.{ℕ, _+_}
-use native.Mathlib.Omega.{arith}
 use lib.ListN.{length}
-use lib.Dec.{ltb}
 use Rattle.codes.specs.declared.Parsed.{Parsed}
 use Rattle.codes.specs.declared.Parsed.the-variants.{Node, Refused}
 use Rattle.codes.specs.declared.NodeId.{NodeId}
 use Rattle.codes.specs.declared.TokenId.{TokenId}
-use Rattle.codes.specs.Answer.{Gives, Untyped, Sized, parsed, nodes, token, nodeId, row, refusal}
+use Rattle.codes.specs.Answer.{Gives, Untyped, Sized, parsed, nodes, token, nodeId, row}
 use Rattle.codes.proofs.Onto.{_then_, stays, reads, regroup, at-here, answers, shows, told, hands-on, came-read}
 use Rattle.codes.proofs.Onto.{plain-parsed, picked, takes}
 use Rattle.codes.proofs.Loops.{Going, sets-out, goes-round, round, round-again, round-last}
@@ -19,7 +17,6 @@ use Rattle.tokens.specs.declared.Optional.{Optional}
 use Rattle.tokens.specs.Answer.{kindIn, Optionally}
 use Rattle.tokens.proofs.Laws.{optioned, missing, negated}
 use Rattle.references.specs.Answer.{closing}
-use Rattle.types.proofs.Laws.{too-deep, begins, keyword, name, leaf-read, type-stopped, type-single}
 use Rattle.casts.specs.Answer.{Casting, bitCast}
 use Rattle.casts.proofs.Bounds.{after-as, as-moves}
 use Rattle.rules.specs.Codes.BaseToken as BaseToken
@@ -27,7 +24,7 @@ use Rattle.rules.specs.Codes.ParseNode as ParseNode
 use Rattle.rules.specs.Codes.Refusal as Refusal
 use Rattle.rules.specs.Reading.{Rule, Row, refuse, repeat, loop}
 use Rattle.rules.specs.Columns.{Nodes, append, columns}
-use Rattle.rules.specs.Types.{innerType, type}
+use Rattle.rules.specs.Types.{type}
 use Rattle.rules.specs.Expressions.{sizeOf, typeCast, coerced, singularEnd}
 
 -- a `cast` before a unary
@@ -38,43 +35,6 @@ module _ (tk : List ℕ) (bare : Bool) (c : ℕ) where
   pub cast-optional :
       bare ≡ false → {o : Optional} → Optionally tk BaseToken.Cast c o → Casting tk bare c o
   cast-optional e g = record { alone = λ q. absurd (true≢false (sym q ∙ e)); whole = λ _. g }
-
--- a type where no nesting is left, or of one token, by its node
-module _ (tk tv : List ℕ) (u c : ℕ) where
-  pub cast-too-deep :
-      (k : ℕ) (ks ls : List ℕ) → u ≡ 0 →
-      Gives (type columns (row tk tv) u) c (nodes ks ls k) (refusal Refusal.NestingExceeded c c c k) ks ls
-  cast-too-deep k ks ls e = type-stopped tk tv u c (too-deep tk tv u c k ks ls e) refl
-
-  module _ {s : Nodes} {r : Parsed} {ks ls : List ℕ} where
-    one-token :
-        (kind load : ℕ) → Gives (append kind load) (c + 1) s r ks ls →
-        Gives (innerType columns (row tk tv) u) c s r ks ls → Gives (type columns (row tk tv) u) c s r ks ls
-    unfolding append
-    one-token kind load g d = go (ltb (s .count) (length (s .kinds))) refl
-      where
-        go : (b : Bool) → ltb (s .count) (length (s .kinds)) ≡ b → Gives (type columns (row tk tv) u) c s r ks ls
-        go true e =
-            let q : r ≡ Node (nodeId (s .count)) (token (c + 1)) (s .count + 1) = g .reply ∙ rw e refl in
-            rw q (type-single tk tv u c d q (omega arith))
-        go false e =
-            let q : r ≡ refusal Refusal.NoSlot (c + 1) (c + 1) (c + 1) (s .count) = g .reply ∙ rw e refl in
-            type-stopped tk tv u c d q
-
-    module _ (t : ℕ) (left : u ≡ 0 → ⊥) (peeked : t ≡ kindIn tk c) where
-      pub keyword-type :
-          t ≡ BaseToken.ValueTypeKeyword → {v : ℕ} → v ≡ kindIn tv c →
-          Gives (append ParseNode.SimpleValueType v) (c + 1) s r ks ls → Gives (type columns (row tk tv) u) c s r ks ls
-      keyword-type e q g =
-          let b = begins tk tv c t (s .count) peeked (keyword q) e in
-          one-token _ _ g (leaf-read tk tv u c (s .count) left b refl g)
-
-      pub name-type :
-          t ≡ BaseToken.Identifier → Gives (append ParseNode.UnresolvedStructOrWordVT c) (c + 1) s r ks ls →
-          Gives (type columns (row tk tv) u) c s r ks ls
-      name-type e g =
-          let b = begins tk tv c t (s .count) peeked name e in
-          one-token _ _ g (leaf-read tk tv u c (s .count) left b refl g)
 
 -- the type after an `as`, and the cast to it
 module _

@@ -39,50 +39,6 @@ pub fn optional_cast(kinds: &[u8], cursor: TokenId, bare: bool) -> Optional
     }
 }
 
-// A type. One of a single token is read here: the reader that calls itself costs more to call than this takes.
-fn parse_coerced_type(
-    kinds: &[u8],
-    types: &[u8],
-    node_kinds: &mut [u8],
-    node_loads: &mut [u32],
-    cursor: TokenId,
-    count: u32,
-    unused: u32,
-) -> Parsed
-    requires { ⌜ Sized (now kinds) (now types) (now «node_kinds») (now «node_loads») (cursor .0) count ⌝ }
-    ensures { λ r. ⌜ Gives (type columns (row (now (kinds .entry)) (now (types .entry))) unused) (cursor .0) (nodes (now («node_kinds» .entry)) (now («node_loads» .entry)) count) r (now («node_kinds» .exit)) (now («node_loads» .exit)) ⌝ }
-{
-    if unused == 0 {
-        return Parsed::Refused {
-            number: Refusal::NestingExceeded,
-            start: cursor,
-            end: cursor,
-            cursor,
-            count,
-        };
-    }
-    let at = cursor.0;
-    let next = TokenId(at + 1);
-    match peek(kinds, cursor) {
-        BaseToken::ValueTypeKeyword => {
-            let load = peek(types, cursor) as u32;
-            push(
-                node_kinds,
-                node_loads,
-                next,
-                count,
-                ParseNode::SimpleValueType,
-                load,
-            )
-        }
-        BaseToken::Identifier => {
-            let kind = ParseNode::UnresolvedStructOrWordVT;
-            push(node_kinds, node_loads, next, count, kind, at)
-        }
-        _ => parse_type(kinds, types, node_kinds, node_loads, cursor, count, unused),
-    }
-}
-
 // The type after an `as`, and the node of the cast of what stands before it.
 fn coerce(
     kinds: &[u8],
@@ -97,7 +53,7 @@ fn coerce(
     requires { ⌜ Sized (now kinds) (now types) (now «node_kinds») (now «node_loads») (cursor .0) count ⌝ }
     ensures { λ r. ⌜ Gives (typeCast columns (row (now (kinds .entry)) (now (types .entry))) (type columns (row (now (kinds .entry)) (now (types .entry))) unused) (expression .0)) (cursor .0) (nodes (now («node_kinds» .entry)) (now («node_loads» .entry)) count) r (now («node_kinds» .exit)) (now («node_loads» .exit)) ⌝ }
 {
-    let coerced = parse_coerced_type(kinds, types, node_kinds, node_loads, cursor, count, unused);
+    let coerced = parse_type(kinds, types, node_kinds, node_loads, cursor, count, unused);
     let Parsed::Node {
         root: _,
         cursor: after,

@@ -4,9 +4,9 @@ use mathlib.Core.Bool.{Bool, true, false, not, true≢false}
 use mathlib.Core.List.{List, [], _∷_}
 use mathlib.Core.Logic.{_≢_}
 use mathlib.Core.Option.{some, none}
-use Prim.Native.Nat.{ℕ, suc, _+_, _-_, _≤_, _<_}
+use Prim.Native.Nat.{ℕ, zero, suc, _+_, _-_, _≤_, _<_}
 use native.Mathlib.Omega.{arith}
-use lib.ListN.{length}
+use lib.ListN.{length, getD}
 use lib.Dec.{eqb, ltb}
 use borrow.Author.Tests.{ltb-true, ltb-false, eqb-true, eqb-false, lt-ltb, le-ltb, eq-eqb, ne-eqb}
 use Rattle.codes.specs.declared.Parsed.{Parsed}
@@ -17,7 +17,7 @@ use Rattle.codes.specs.Answer.{Gives, Sized, answer, parsed, nodes, row, token}
 use Rattle.codes.proofs.Onto.{came-read, came-refused, plain-parsed, declines, stays}
 use Rattle.penne.specs.declared.Checked.{Checked}
 use Rattle.penne.specs.declared.Checked.the-variants.{Passed, Failed}
-use Rattle.penne.specs.Answer.{checkOf}
+use Rattle.penne.specs.Answer.{checkOf, Bounded}
 use Rattle.penne.specs.Checks.{Check, check, orElse, failing, or, unequal, bad, badToken, lastCheck, rowCheck}
 use Rattle.penne.specs.Checks.{placeCheck, slotsCheck, flagsCheck, wordCheck, inputCheck, declarationCheck}
 use Rattle.penne.specs.Checks.{wordDeclarationCheck, checked}
@@ -94,6 +94,41 @@ module _ (row : Row) (place : ℕ) (h : badToken row 0 (length (row .kinds)) ≡
     good-tokens b =
         let e : length (row .kinds) - place ≡ 0 = omega arith in
         sym (h ∙ rw e refl)
+
+-- the largest byte of a column's first places
+pub none-bounded : (xs : List ℕ) (m : ℕ) → Bounded xs 0 m
+none-bounded xs m = record { each = λ k h. absurd (omega arith) }
+
+module _ {xs : List ℕ} {place m : ℕ} (f : Bounded xs place m) where
+  pub one-bounded : {n : ℕ} → m ≤ n → getD xs place 0 ≤ n → Bounded xs (place + 1) n
+  one-bounded {n} h g = record { each = λ k b. by-place k b (eqb k place) refl }
+    where
+      by-place : (k : ℕ) → k < place + 1 → (here : Bool) → eqb k place ≡ here → getD xs k 0 ≤ n
+      by-place k b true q = let w : k ≡ place = eqb-true k place q in rw w g
+      by-place k b false q =
+          let w : k ≢ place = eqb-false k place q in
+          let e = f .each k (omega arith) in
+          omega arith
+
+  pub all-bounded : length xs ≤ place → Bounded xs (length xs) m
+  all-bounded h = record { each = λ k b. f .each k (omega arith) }
+
+-- a row with no bad token
+module _
+    (tk tv : List ℕ) {a b : ℕ} (f : Bounded tk (length tk) a) (h : a ≤ BaseToken.Error) (g : Bounded tv (length tv) b)
+    (i : b ≤ ValueTypeKeyword.Bool) (e : length tv ≡ length tk) where
+  none-bad : (place left : ℕ) → place + left ≤ length tk → badToken (row tk tv) place left ≡ none
+  unfolding badToken
+  none-bad place zero d = refl
+  none-bad place (suc left) d =
+      let k = f .each place (omega arith) in
+      let v = g .each place (omega arith) in
+      let x : getD tk place 0 ≤ BaseToken.Error = omega arith in
+      let y : getD tv place 0 ≤ ValueTypeKeyword.Bool = omega arith in
+      rw (le-ltb _ _ x, le-ltb _ _ y) (none-bad (place + 1) left (omega arith))
+
+  pub all-good : none ≡ badToken (row tk tv) 0 (length tk)
+  all-good = sym (none-bad 0 (length tk) (omega arith))
 
 -- the row's size
 module _ (tk tv : List ℕ) where

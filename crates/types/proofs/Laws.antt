@@ -3,6 +3,7 @@ use mathlib.Core.Path.{_≡_, refl, sym, _∙_}
 use mathlib.Core.Bool.{Bool, true, false}
 use mathlib.Core.List.{List, [], _∷_}
 use Prim.Native.Nat.{ℕ, zero, suc, _+_, _-_, _≤_, _<_}
+use lib.ListN.{length}
 use lib.Dec.{ltb}
 use borrow.Author.Tests.{lt-ltb, le-ltb, eq-eqb, ne-eqb}
 use native.Mathlib.Omega.{arith}
@@ -11,7 +12,7 @@ use Rattle.codes.specs.declared.Parsed.{Parsed}
 use Rattle.codes.specs.declared.Parsed.the-variants.{Node, Refused}
 use Rattle.codes.specs.declared.NodeId.{NodeId}
 use Rattle.codes.specs.declared.TokenId.{TokenId}
-use Rattle.codes.specs.Answer.{Gives, Quiet, nodes, token, row, refusal}
+use Rattle.codes.specs.Answer.{Gives, Quiet, nodes, token, nodeId, row, refusal}
 use Rattle.codes.proofs.Onto.{Onto, _then_, stays, reads, at-here, takes, answers, declines, shows, told, held}
 use Rattle.codes.proofs.Onto.{hands-on, came-read, plain-parsed, Rest, beside, picked}
 use Rattle.tokens.specs.declared.Consumed.{Consumed}
@@ -192,3 +193,40 @@ module _ (start c : ℕ) {s : Nodes} {r₁ : Parsed} {ks₁ ls₁ : List ℕ}
       Gives (spanning start c) c s r ks ls
   unfolding spanning
   span-read q d = shows (reads _ (came-read plain-parsed g q)) d
+
+-- a type where no nesting is left, or of one token, by its node
+module _ (tk tv : List ℕ) (u c : ℕ) where
+  pub type-too-deep :
+      (k : ℕ) (ks ls : List ℕ) → u ≡ 0 →
+      Gives (type columns (row tk tv) u) c (nodes ks ls k) (refusal Refusal.NestingExceeded c c c k) ks ls
+  type-too-deep k ks ls e = type-stopped tk tv u c (too-deep tk tv u c k ks ls e) refl
+
+  module _ {s : Nodes} {r : Parsed} {ks ls : List ℕ} where
+    one-token :
+        (kind load : ℕ) → Gives (append kind load) (c + 1) s r ks ls →
+        Gives (innerType columns (row tk tv) u) c s r ks ls → Gives (type columns (row tk tv) u) c s r ks ls
+    unfolding append
+    one-token kind load g d = go (ltb (s .count) (length (s .kinds))) refl
+      where
+        go : (b : Bool) → ltb (s .count) (length (s .kinds)) ≡ b → Gives (type columns (row tk tv) u) c s r ks ls
+        go true e =
+            let q : r ≡ Node (nodeId (s .count)) (token (c + 1)) (s .count + 1) = g .reply ∙ rw e refl in
+            rw q (type-single tk tv u c d q (omega arith))
+        go false e =
+            let q : r ≡ refusal Refusal.NoSlot (c + 1) (c + 1) (c + 1) (s .count) = g .reply ∙ rw e refl in
+            type-stopped tk tv u c d q
+
+    module _ (t : ℕ) (left : u ≡ 0 → ⊥) (peeked : t ≡ kindIn tk c) where
+      pub keyword-type :
+          t ≡ BaseToken.ValueTypeKeyword → {v : ℕ} → v ≡ kindIn tv c →
+          Gives (append ParseNode.SimpleValueType v) (c + 1) s r ks ls → Gives (type columns (row tk tv) u) c s r ks ls
+      keyword-type e q g =
+          let b = begins tk tv c t (s .count) peeked (keyword q) e in
+          one-token _ _ g (leaf-read tk tv u c (s .count) left b refl g)
+
+      pub name-type :
+          t ≡ BaseToken.Identifier → Gives (append ParseNode.UnresolvedStructOrWordVT c) (c + 1) s r ks ls →
+          Gives (type columns (row tk tv) u) c s r ks ls
+      name-type e g =
+          let b = begins tk tv c t (s .count) peeked name e in
+          one-token _ _ g (leaf-read tk tv u c (s .count) left b refl g)

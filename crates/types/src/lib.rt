@@ -200,8 +200,8 @@ fn push_span(
     )
 }
 
-// A type; one of several tokens gets its span.
-pub fn parse_type(
+// A type by its inner type; one of several tokens gets its span.
+fn parse_any_type(
     kinds: &[u8],
     types: &[u8],
     node_kinds: &mut [u8],
@@ -228,5 +228,50 @@ pub fn parse_type(
         push_span(node_kinds, node_loads, after, used, start)
     } else {
         inner
+    }
+}
+
+// A type. One of a single token is read here: the reader that calls itself costs more to call than this takes.
+pub fn parse_type(
+    kinds: &[u8],
+    types: &[u8],
+    node_kinds: &mut [u8],
+    node_loads: &mut [u32],
+    cursor: TokenId,
+    count: u32,
+    unused: u32,
+) -> Parsed
+    requires { ⌜ Sized (now kinds) (now types) (now «node_kinds») (now «node_loads») (cursor .0) count ⌝ }
+    ensures { λ r. ⌜ Gives (type columns (row (now (kinds .entry)) (now (types .entry))) unused) (cursor .0) (nodes (now («node_kinds» .entry)) (now («node_loads» .entry)) count) r (now («node_kinds» .exit)) (now («node_loads» .exit)) ⌝ }
+{
+    if unused == 0 {
+        let number = Refusal::NestingExceeded;
+        return Parsed::Refused {
+            number,
+            start: cursor,
+            end: cursor,
+            cursor,
+            count,
+        };
+    }
+    let at = cursor.0;
+    let next = TokenId(at + 1);
+    match peek(kinds, cursor) {
+        BaseToken::ValueTypeKeyword => {
+            let load = peek(types, cursor) as u32;
+            push(
+                node_kinds,
+                node_loads,
+                next,
+                count,
+                ParseNode::SimpleValueType,
+                load,
+            )
+        }
+        BaseToken::Identifier => {
+            let kind = ParseNode::UnresolvedStructOrWordVT;
+            push(node_kinds, node_loads, next, count, kind, at)
+        }
+        _ => parse_any_type(kinds, types, node_kinds, node_loads, cursor, count, unused),
     }
 }
