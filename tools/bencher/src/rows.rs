@@ -413,7 +413,7 @@ impl Writer {
 
     fn inner_type(&mut self, tokens: usize) {
         match self.below(4) {
-            _ if tokens == 1 => return self.push_one_of(&[52, 52, IDENTIFIER]),
+            _ if tokens == 1 => self.push_one_of(&[52, 52, IDENTIFIER]),
             0 if tokens >= 4 => {
                 self.push(5);
                 self.push_one_of(&[55, IDENTIFIER, 19, 32]);
