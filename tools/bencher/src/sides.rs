@@ -1,0 +1,233 @@
+//! The two parsers on the rows of a case, with buffers that are used again and never cleared.
+
+use std::hint::black_box;
+
+use oracle::{Buffer, Entry, Reply, Row};
+// Only linked: the library's functions are called directly here.
+use penne_parser as _;
+
+use crate::rows::Case;
+
+/// The most slots that document 01 allows.
+const SLOTS: usize = oracle::MOST_SLOTS as usize;
+
+/// Flags, the declaration's start and the declaring token of all declarations.
+const FLAGS: u8 = 1;
+const START: u32 = 0;
+const WORD: u8 = 50;
+
+#[derive(Clone, Copy, PartialEq)]
+pub enum Side {
+    /// The Rust's function, and the reading of its reply.
+    Rust,
+    /// The library's function, its checks of the input included.
+    Ours,
+    /// The library's function with a cursor just past the row: it checks the whole input, as it
+    /// does before a parse, and then refuses with 30.
+    Checks,
+}
+
+pub const SIDES: [Side; 3] = [Side::Rust, Side::Ours, Side::Checks];
+
+unsafe extern "C" {
+    fn penne_parse_expression(
+        kinds: *const u8,
+        n: usize,
+        types: *const u8,
+        n2: usize,
+        cursor: u32,
+        node_kinds: *mut u8,
+        m: usize,
+        node_loads: *mut u32,
+        m2: usize,
+        count: u32,
+        reply: *mut u32,
+        k: usize,
+    ) -> bool;
+    fn penne_parse_type(
+        kinds: *const u8,
+        n: usize,
+        types: *const u8,
+        n2: usize,
+        cursor: u32,
+        node_kinds: *mut u8,
+        m: usize,
+        node_loads: *mut u32,
+        m2: usize,
+        count: u32,
+        reply: *mut u32,
+        k: usize,
+    ) -> bool;
+    fn penne_parse_constant_declaration(
+        kinds: *const u8,
+        n: usize,
+        types: *const u8,
+        n2: usize,
+        cursor: u32,
+        node_kinds: *mut u8,
+        m: usize,
+        node_loads: *mut u32,
+        m2: usize,
+        count: u32,
+        start: u32,
+        flags: u32,
+        reply: *mut u32,
+        k: usize,
+    ) -> bool;
+    fn penne_parse_struct_declaration(
+        kinds: *const u8,
+        n: usize,
+        types: *const u8,
+        n2: usize,
+        cursor: u32,
+        node_kinds: *mut u8,
+        m: usize,
+        node_loads: *mut u32,
+        m2: usize,
+        count: u32,
+        start: u32,
+        flags: u32,
+        reply: *mut u32,
+        k: usize,
+    ) -> bool;
+    fn penne_parse_word_declaration(
+        kinds: *const u8,
+        n: usize,
+        types: *const u8,
+        n2: usize,
+        cursor: u32,
+        node_kinds: *mut u8,
+        m: usize,
+        node_loads: *mut u32,
+        m2: usize,
+        count: u32,
+        start: u32,
+        flags: u32,
+        declaring_token: u8,
+        reply: *mut u32,
+        k: usize,
+    ) -> bool;
+}
+
+/// The buffers of both sides.
+pub struct Buffers {
+    rust: Buffer,
+    node_kinds: Vec<u8>,
+    node_loads: Vec<u32>,
+}
+
+impl Buffers {
+    pub fn new() -> Buffers {
+        Buffers {
+            rust: Buffer::with_room(SLOTS),
+            node_kinds: vec![0; SLOTS],
+            node_loads: vec![0; SLOTS],
+        }
+    }
+}
+
+/// The rows of a case, made ready for both sides.
+pub struct Ready {
+    entry: Entry,
+    rust: Vec<Row>,
+    ours: Vec<(Vec<u8>, Vec<u8>)>,
+}
+
+impl Ready {
+    pub fn new(case: &Case) -> Ready {
+        let row = |(kinds, types): &(Vec<u8>, Vec<u8>)| Row::new(kinds, types).expect("a row");
+        Ready {
+            entry: case.entry,
+            rust: case.rows.iter().map(row).collect(),
+            ours: case.rows.clone(),
+        }
+    }
+
+    /// Parses each row once.
+    pub fn parse(&self, side: Side, buffers: &mut Buffers) {
+        match side {
+            Side::Rust => self.rust.iter().for_each(|row| {
+                black_box(rust(self.entry, row, &mut buffers.rust));
+            }),
+            Side::Ours => self.ours.iter().for_each(|row| {
+                black_box(ours(self.entry, row, 0, buffers));
+            }),
+            Side::Checks => self.ours.iter().for_each(|row| {
+                black_box(ours(self.entry, row, row.0.len() as u32, buffers));
+            }),
+        }
+    }
+
+    /// Compares replies and nodes of both sides, and gives the number of nodes. Each row must be
+    /// accepted and read up to EndOfSource.
+    pub fn compare(&self, buffers: &mut Buffers) -> usize {
+        let mut nodes = 0;
+        for (theirs, row) in self.rust.iter().zip(&self.ours) {
+            let reply = rust(self.entry, theirs, &mut buffers.rust);
+            let Reply::Accepted {
+                root,
+                cursor,
+                count,
+            } = reply
+            else {
+                panic!("the Rust answers {reply:?}");
+            };
+            assert_eq!(cursor as usize, row.0.len() - 1);
+            assert_eq!(
+                ours(self.entry, row, 0, buffers),
+                [0, root, cursor, count, 0, 0]
+            );
+            for (place, node) in buffers.rust.appended().enumerate() {
+                assert_eq!((buffers.node_kinds[place], buffers.node_loads[place]), node);
+            }
+            let past = ours(self.entry, row, row.0.len() as u32, buffers);
+            assert_eq!(past[..2], [1, 30]);
+            nodes += count as usize;
+        }
+        nodes
+    }
+}
+
+#[inline(never)]
+fn rust(entry: Entry, row: &Row, buffer: &mut Buffer) -> Reply {
+    match entry {
+        Entry::Expression => row.expression_bare(0, buffer),
+        Entry::Type => row.type_bare(0, buffer),
+        Entry::Constant => row.constant_bare(0, FLAGS, START, buffer),
+        Entry::Struct => row.struct_bare(0, FLAGS, START, buffer),
+        Entry::Word => row.word_bare(0, FLAGS, START, WORD, buffer),
+    }
+}
+
+#[inline(never)]
+fn ours(
+    entry: Entry,
+    (kinds, types): &(Vec<u8>, Vec<u8>),
+    cursor: u32,
+    to: &mut Buffers,
+) -> [u32; 6] {
+    let mut reply = [0; 6];
+    macro_rules! call {
+        ($function:ident($($more:expr),*)) => {
+            // Safety: each pointer goes with the length of what it points to, what is written is
+            // borrowed exclusively, and the library keeps no pointer.
+            unsafe {
+                $function(
+                    kinds.as_ptr(), kinds.len(), types.as_ptr(), types.len(), cursor,
+                    to.node_kinds.as_mut_ptr(), to.node_kinds.len(),
+                    to.node_loads.as_mut_ptr(), to.node_loads.len(), 0,
+                    $($more,)* reply.as_mut_ptr(), reply.len(),
+                )
+            }
+        };
+    }
+    let flags = u32::from(FLAGS);
+    match entry {
+        Entry::Expression => call!(penne_parse_expression()),
+        Entry::Type => call!(penne_parse_type()),
+        Entry::Constant => call!(penne_parse_constant_declaration(START, flags)),
+        Entry::Struct => call!(penne_parse_struct_declaration(START, flags)),
+        Entry::Word => call!(penne_parse_word_declaration(START, flags, WORD)),
+    };
+    reply
+}
