@@ -1,6 +1,5 @@
 -- What the walks of append and patch share: the record as crate walks has it, and the two columns, which a call is
--- given
--- for good.
+-- given for good.
 use mathlib.Core.Path.{refl}
 use Prim.Native.Nat.{ℕ}
 use mathlib.Core.List.{List, [], _∷_}

@@ -1,6 +1,5 @@
 -- What a reader owns, for the walks of the functions over one: it is made of a row and a cursor, its kinds and its
--- cursor
--- are had for a call beside it, and another cursor is put in the place of its own.
+-- cursor are had for a call beside it, and another cursor is put in the place of its own.
 use mathlib.Core.Path.{_≡_, refl}
 use Prim.Native.Nat.{ℕ}
 use mathlib.Core.List.{List, [], _∷_}

@@ -19,8 +19,7 @@ use denote.Memory.{mem, partAt}
 use denote.Ref.{RefT, MutRef, ShrRef}
 use Rattle.walks.proofs.Whole.{Whole, Cell, Own, lies-in, lies-out}
 
--- A value that holds references at κ is lent for the meet of κ and a lifetime ν of the call: one half of κ's token
--- goes
+-- A value that holds references at κ is lent for the meet of κ and a lifetime ν of the call: one half of κ's token goes
 -- into the token of the meet, the other to the callee.
 module _ (κ : Lft) (q : Share) where
   abbrev pub Short : ℕ → Fml

@@ -1,8 +1,6 @@
--- `buffer::append` meets its contract: a walk of its MIR, by hand. The borrow of the record is opened,
--- `nodes::push` is
--- called with the columns and the node count, what `after_push` makes of its answer is stored in the record, and
--- the borrow
--- is closed. All that the proof knows of the two is that each meets its contract.
+-- `buffer::append` meets its contract: a walk of its MIR, by hand. The borrow of the record is opened, `nodes::push` is
+-- called with the columns and the node count, what `after_push` makes of its answer is stored in the record, and the
+-- borrow is closed. All that the proof knows of the two is that each meets its contract.
 use mathlib.Core.Path.{_≡_, refl, ap}
 use Prim.Native.Nat.{ℕ, _<_, _^_}
 use mathlib.Core.List.{List, [], _∷_}

@@ -1,6 +1,6 @@
 -- `buffer::append_to` meets its contract: a walk of its MIR, by hand. The record is copied to a local, lent to
--- `append`, and
--- read afterwards; the columns are passed on. All that the proof knows of `append` is that it meets its contract.
+-- `append`, and read afterwards; the columns are passed on. All that the proof knows of `append` is that it meets its
+-- contract.
 use mathlib.Core.Path.{_≡_, refl, ap}
 use Prim.Native.Nat.{ℕ, _<_, _^_}
 use mathlib.Core.List.{List, [], _∷_}

@@ -1,6 +1,5 @@
 -- `buffer::patch` meets its contract: a walk of its MIR, by hand, as that of `buffer::append`, with
--- `nodes::push_list_item`
--- and `after_item` for the two that are called.
+-- `nodes::push_list_item` and `after_item` for the two that are called.
 use mathlib.Core.Path.{_≡_, refl, ap}
 use Prim.Native.Nat.{ℕ, _≤_}
 use mathlib.Core.List.{List, [], _∷_}

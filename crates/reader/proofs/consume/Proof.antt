@@ -1,6 +1,5 @@
--- `reader::consume` meets its contract: a walk of its MIR, by hand, as that of `reader::take`, with two numbers
--- more that
--- are passed on. What `tokens::consume` answers is returned whole, and the reader goes on from the next token.
+-- `reader::consume` meets its contract: a walk of its MIR, by hand, as that of `reader::take`, with two numbers more
+-- that are passed on. What `tokens::consume` answers is returned whole, and the reader goes on from the next token.
 use mathlib.Core.Path.{refl}
 use Prim.Native.Nat.{ℕ, _<_, _≤_, _+_, _^_}
 use mathlib.Core.List.{List, [], _∷_}

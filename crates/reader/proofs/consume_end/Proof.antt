@@ -1,6 +1,5 @@
--- `reader::consume_end` meets its contract: a walk of its MIR, by hand. A reader that `new` makes is held in a
--- local and lent
--- to `consume_optional` and then to `consume`. All that the proof knows of the three is that each meets its
+-- `reader::consume_end` meets its contract: a walk of its MIR, by hand. A reader that `new` makes is held in a local
+-- and lent to `consume_optional` and then to `consume`. All that the proof knows of the three is that each meets its
 -- contract.
 use mathlib.Core.Path.{refl, sym, ap, subst}
 use Prim.Native.Nat.{ℕ, _<_, _≤_, _+_, _^_}

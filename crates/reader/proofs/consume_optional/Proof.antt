@@ -1,5 +1,4 @@
--- `reader::consume_optional` meets its contract: a walk of its MIR, by hand, as that of `reader::take`, with one
--- number
+-- `reader::consume_optional` meets its contract: a walk of its MIR, by hand, as that of `reader::take`, with one number
 -- more that is passed on.
 use mathlib.Core.Path.{refl, ap}
 use Prim.Native.Nat.{ℕ, _<_, _≤_, _+_, _^_}

@@ -1,8 +1,6 @@
 -- `reader::new` meets its contract: a walk of its MIR, by hand. A reader is made of the two slices and the cursor
--- passed,
--- in the result's local. All three are Copy: what they own together is what the reader owns, and is had twice,
--- once for
--- the parameters at exit and once for the result.
+-- passed, in the result's local. All three are Copy: what they own together is what the reader owns, and is had twice,
+-- once for the parameters at exit and once for the result.
 use mathlib.Core.Path.{refl}
 use Prim.Native.Nat.{ℕ}
 use mathlib.Core.List.{List, [], _∷_}

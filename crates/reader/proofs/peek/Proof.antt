@@ -1,6 +1,6 @@
 -- `reader::peek` meets its contract: a walk of its MIR, by hand. The reader is looked into for its kinds and its
--- cursor,
--- and `tokens::peek` is called with them. All that the proof knows of `tokens::peek` is that it meets its contract.
+-- cursor, and `tokens::peek` is called with them. All that the proof knows of `tokens::peek` is that it meets its
+-- contract.
 use mathlib.Core.Path.{_≡_, refl}
 use Prim.Native.Nat.{ℕ}
 use mathlib.Core.List.{List, [], _∷_}

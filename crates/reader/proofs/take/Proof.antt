@@ -1,8 +1,6 @@
--- `reader::take` meets its contract: a walk of its MIR, by hand. The borrow is opened, `tokens::take` is called
--- with the
--- kinds and the cursor that the reader holds, its cursor is stored in the reader, and the borrow is closed. All
--- that the
--- proof knows of `tokens::take` is that it meets its contract.
+-- `reader::take` meets its contract: a walk of its MIR, by hand. The borrow is opened, `tokens::take` is called with
+-- the kinds and the cursor that the reader holds, its cursor is stored in the reader, and the borrow is closed. All
+-- that the proof knows of `tokens::take` is that it meets its contract.
 use mathlib.Core.Path.{refl, ap}
 use Prim.Native.Nat.{ℕ, _<_, _≤_, _+_, _^_}
 use mathlib.Core.List.{List, [], _∷_}

@@ -1,8 +1,6 @@
--- `reader::take_at` meets its contract: a walk of its MIR, by hand. A reader that `new` makes is held in a local,
--- lent to
--- `peek` and then to `take`, and its cursor is read afterwards. All that the proof knows of the three is that each
--- meets its
--- contract.
+-- `reader::take_at` meets its contract: a walk of its MIR, by hand. A reader that `new` makes is held in a local, lent
+-- to `peek` and then to `take`, and its cursor is read afterwards. All that the proof knows of the three is that each
+-- meets its contract.
 use mathlib.Core.Path.{_≡_, refl, sym, ap, subst}
 use Prim.Native.Nat.{ℕ, _≤_, _+_}
 use mathlib.Core.List.{List, [], _∷_}
