@@ -1,5 +1,5 @@
 -- What the tests of a slot tell of the slots of a column.
-use Prim.Native.Nat.{ℕ, suc, _+_, _-_, _≤_, _<_}
+use Prim.Native.Nat.{ℕ, suc, _+_, _-_, _≤_, _<_, min}
 use native.Mathlib.Omega.{arith}
 use mathlib.Core.Bool.{Bool, true, false, not, true≢false}
 use mathlib.Core.List.{List}
@@ -83,3 +83,9 @@ module _ (old : ℕ → ℕ) (column : List ℕ) (given replied : ℕ) where
           keptFrom old column given replied 0 (length column) ≡
           keptFrom old column given replied (slot + 1) (length column - (slot + 1))
       slot-kept x = next ∙ unchanged k (keptFrom old column given replied (slot + 1) (length column - (slot + 1))) x
+
+-- the nodes that were appended
+pub counted :
+    (given replied k l : ℕ) {slots to from : ℕ} → slots ≡ min k l → to ≡ min replied slots → from ≡ min given to →
+    to - from ≡ min replied (min k l) - min given (min replied (min k l))
+counted given replied k l e f g = rw (g, f, e) refl

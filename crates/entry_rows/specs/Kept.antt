@@ -1,5 +1,5 @@
 -- The frame of a call as the program looks at it: what a slot holds before it, and which slots must hold it after.
-use Prim.Native.Nat.{ℕ, zero, suc, _+_, _%_, _<_}
+use Prim.Native.Nat.{ℕ, zero, suc, _+_, _-_, _%_, _<_, min}
 use mathlib.Core.Bool.{Bool, true, false}
 use mathlib.Core.List.{List}
 use mathlib.Core.Path.{_≡_}
@@ -29,3 +29,7 @@ keptFrom old column given replied slot (suc left) =
     pick (keptSlot (eqb (getD column slot 0) (old slot)) slot given replied)
     (keptFrom old column given replied (slot + 1) left)
     false
+
+-- how many nodes of such columns lie from the given count up to the replied one
+abbrev pub appendedIn : ℕ → ℕ → ℕ → ℕ → ℕ
+appendedIn given replied slots loads = min replied (min slots loads) - min given (min replied (min slots loads))

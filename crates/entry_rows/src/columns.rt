@@ -1,9 +1,9 @@
 // The node columns before and after an entry: the slots are filled with what no entry writes, so that a slot that was
 // written is told from one that was not.
-ghost use Prim.Native.Nat.{_≤_, _<_};
+ghost use Prim.Native.Nat.{_≤_, _<_, min};
 ghost use mathlib.Core.Path.{_≡_};
 ghost use lib.ListN.{length};
-ghost use Rattle.entry_rows.specs.Kept.{oldKind, oldLoad, Filled, keptSlot, keptFrom};
+ghost use Rattle.entry_rows.specs.Kept.{oldKind, oldLoad, Filled, keptSlot, keptFrom, appendedIn};
 ghost use Rattle.entry_rows.specs.Most as Most;
 use libc::STDOUT_FILENO;
 
@@ -111,7 +111,7 @@ pub fn loads_kept(column: &[u32], given: usize, replied: usize) -> bool
 }
 
 fn least(a: usize, b: usize) -> usize
-    ensures { λ r. ⌜ (r ≤ a) × (r ≤ b) ⌝ }
+    ensures { λ r. ⌜ r ≡ min a b ⌝ }
 {
     if a < b { a } else { b }
 }
@@ -155,10 +155,14 @@ fn print_nodes(node_kinds: &[u8], node_loads: &[u32]) {
     io::write_all(STDOUT_FILENO, b"\n");
 }
 
-// The nodes from the given count up to the replied one, as far as both columns have slots.
-pub fn print_appended(node_kinds: &[u8], node_loads: &[u32], given: usize, replied: usize) {
+// The nodes from the given count up to the replied one, as far as both columns have slots. The result is how many there
+// were.
+pub fn print_appended(node_kinds: &[u8], node_loads: &[u32], given: usize, replied: usize) -> usize
+    ensures { λ r. ⌜ r ≡ appendedIn given replied (length (now («node_kinds» .entry))) (length (now («node_loads» .entry))) ⌝ }
+{
     let slots = least(node_kinds.len(), node_loads.len());
     let to = least(replied, slots);
     let from = least(given, to);
     print_nodes(&node_kinds[from..to], &node_loads[from..to]);
+    to - from
 }

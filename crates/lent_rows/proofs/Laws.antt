@@ -1,6 +1,6 @@
 -- The answers as numbers, by their cases, and when two are the same.
 use mathlib.Core.Bool.{true, false}
-use mathlib.Core.Path.{_≡_, refl}
+use mathlib.Core.Path.{_≡_, refl, ap}
 use mathlib.Core.List.{List}
 use Prim.Native.Nat.{ℕ, _+_}
 use native.Mathlib.Omega.{arith}
@@ -42,6 +42,10 @@ pub all-same :
     (a b : Numbers) → a .number ≡ b .number → a .start ≡ b .start → a .end ≡ b .end → a .cursor ≡ b .cursor →
     a .count ≡ b .count → a ≡ b
 all-same a b n s e p k = λ i. numbers (n i) (s i) (e i) (p i) (k i)
+
+-- and only there
+pub apart : (f : Numbers → ℕ) {a b : Numbers} → (f a ≡ f b → ⊥) → a ≡ b → false ≡ true
+apart f n e = absurd (n (ap f e))
 
 pub never : {A : Type 0} → false ≡ true → A
 never e = let z : _≡_ {A = ℕ} 0 1 = cc in absurd (omega arith)

@@ -1,4 +1,4 @@
-// The answers as numbers, which are printed and compared.
+// The answers as numbers, which can be compared.
 ghost use mathlib.Core.Bool.{true};
 ghost use mathlib.Core.Path.{_≡_};
 ghost use Prim.Native.Nat.{_≤_};
@@ -10,7 +10,6 @@ ghost use Rattle.lent_rows.specs.Numbers.{ofTaken, ofParsed, ofConsumed}
 use codes::BaseToken;
 use codes::Parsed;
 use codes::TokenId;
-use libc::STDOUT_FILENO;
 use tokens::Consumed;
 use tokens::Taken;
 
@@ -100,7 +99,7 @@ pub fn end_by_core(kinds: &[u8], cursor: TokenId, count: u32, closing: u8) -> Co
 
 // Whether two answers are the same.
 pub fn same(a: Numbers, b: Numbers) -> bool
-    ensures { λ r. ⌜ (r ≡ true → a ≡ b) ⌝ }
+    ensures { λ r. ⌜ (r ≡ true → a ≡ b) × (a ≡ b → r ≡ true) ⌝ }
 {
     if a.number != b.number {
         return false;
@@ -118,29 +117,4 @@ pub fn same(a: Numbers, b: Numbers) -> bool
         return false;
     }
     true
-}
-
-// Says so where an answer is not the core's.
-pub fn compare(ours: Numbers, core: Numbers) {
-    if !same(ours, core) {
-        io::write_all(STDOUT_FILENO, b" differs");
-    }
-}
-
-fn print_number(number: u32) {
-    io::write_all(STDOUT_FILENO, b" ");
-    io::print_decimal(STDOUT_FILENO, number as u64);
-}
-
-// `ok` and the cursor, or `no` and number, start, end and cursor.
-pub fn print(answer: Numbers) {
-    if answer.number == 0 {
-        io::write_all(STDOUT_FILENO, b" ok");
-    } else {
-        io::write_all(STDOUT_FILENO, b" no");
-        print_number(answer.number);
-        print_number(answer.start);
-        print_number(answer.end);
-    }
-    print_number(answer.cursor);
 }

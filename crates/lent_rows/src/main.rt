@@ -28,6 +28,31 @@ const SLOTS: usize = 7;
 // What a slot's kind is before a node is appended there; no node has it.
 const UNUSED: u8 = 255;
 
+// Says so where an answer is not the core's.
+fn compare(ours: Numbers, core: Numbers) {
+    if !answers::same(ours, core) {
+        io::write_all(STDOUT_FILENO, b" differs");
+    }
+}
+
+fn print_number(number: u32) {
+    io::write_all(STDOUT_FILENO, b" ");
+    io::print_decimal(STDOUT_FILENO, number as u64);
+}
+
+// `ok` and the cursor, or `no` and number, start, end and cursor.
+fn print_answer(answer: Numbers) {
+    if answer.number == 0 {
+        io::write_all(STDOUT_FILENO, b" ok");
+    } else {
+        io::write_all(STDOUT_FILENO, b" no");
+        print_number(answer.number);
+        print_number(answer.start);
+        print_number(answer.end);
+    }
+    print_number(answer.cursor);
+}
+
 // A token's kind and an answer, after what stands before the first token or between two.
 fn print_token(first: bool, kind: u8, ended: Numbers) {
     if first {
@@ -36,7 +61,7 @@ fn print_token(first: bool, kind: u8, ended: Numbers) {
         io::write_all(STDOUT_FILENO, b", ");
     }
     io::print_decimal(STDOUT_FILENO, kind as u64);
-    answers::print(ended);
+    print_answer(ended);
 }
 
 // The token at a place, by the reader and by the core. The result is the next place.
@@ -50,8 +75,8 @@ fn show_token<'a>(kinds: &'a [u8], types: &'a [u8], at: u32, closing: u8) -> u32
     print_token(at == 0, taken.kind, ended);
     let core = tokens::take(kinds, cursor);
     let core_ended = answers::of_consumed(answers::end_by_core(kinds, cursor, 0, closing));
-    answers::compare(answers::of_taken(taken), answers::of_taken(core));
-    answers::compare(ended, core_ended);
+    compare(answers::of_taken(taken), answers::of_taken(core));
+    compare(ended, core_ended);
     taken.cursor.0
 }
 
@@ -136,7 +161,7 @@ fn show_list(slots: usize)
     let core = lists::list_by_core(node_kinds_2, node_loads_2, TokenId(ITEMS), ITEMS);
     print_list(b"record: ", reply, node_kinds, node_loads);
     print_list(b"core: ", core, node_kinds_2, node_loads_2);
-    answers::compare(answers::of_parsed(reply), answers::of_parsed(core));
+    compare(answers::of_parsed(reply), answers::of_parsed(core));
 }
 
 fn show_lists() {
