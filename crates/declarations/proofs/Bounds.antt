@@ -1,6 +1,6 @@
 -- What the readers of declarations take for granted holds where they are called, and after them.
-use mathlib.Core.Path.{_≡_, refl}
-use mathlib.Core.List.{List}
+use mathlib.Core.Path.{_≡_, refl, ap}
+use mathlib.Core.List.{List, []}
 use mathlib.Core.Option.{none}
 use Prim.Native.Nat.{ℕ, _+_, _≤_}
 use native.Mathlib.Omega.{arith}
@@ -21,16 +21,19 @@ use Rattle.tokens.specs.declared.Consumed.the-variants.{Next}
 use Rattle.tokens.specs.Answer.{Optionally, consumed, consuming}
 use Rattle.tokens.proofs.Laws.{holding-consumed}
 use Rattle.tokens.proofs.Bounds.{past-optional, past-consumed, same-count}
-use Rattle.declarations.specs.Answer.{coloned}
+use Rattle.declarations.specs.Answer.{named}
 use Rattle.rules.specs.Codes.{refusalOf}
 use Rattle.rules.specs.Codes.Limit as Limit
 use Rattle.rules.specs.Codes.BaseToken as BaseToken
-use Rattle.rules.specs.Columns.{columns}
+use Rattle.rules.specs.Reading.{Outcome, consume}
+use Rattle.rules.specs.Columns.{Nodes, columns}
+use Rattle.rules.specs.Types.{type}
 use Rattle.rules.specs.Expressions.{expression}
 use Rattle.rules.specs.Declarations.{typed, value, member, members}
 use Rattle.rules.proofs.Demand.{below}
-use Rattle.rules.proofs.Forward.{Nonzero}
-use Rattle.rules.proofs.Moves.{colon-moves, typed-moves, value-moves, member-moves, members-moves, expression-moves}
+use Rattle.rules.proofs.Forward.{Nonzero, consumes, eased, _then_}
+use Rattle.rules.proofs.Moves.{type-moves, colon-moves, typed-moves, value-moves, member-moves, members-moves}
+use Rattle.rules.proofs.Moves.{expression-moves}
 
 -- after a token that was expected
 module _ {tk : List ℕ} {c k : ℕ} (key : ℕ) {o : Consumed} (g : Quiet consumed (consuming key) tk c k o)
@@ -49,16 +52,26 @@ module _ {tk : List ℕ} {c k : ℕ} (key : ℕ) {o : Consumed} (g : Quiet consu
   pub consumed-kept : {n : ℕ} → n ≤ k → n ≤ j
   consumed-kept h = let e = same-count key g q in omega arith
 
+-- after the name before a colon
+pub name-past :
+    {tk : List ℕ} {c k : ℕ} (key : ℕ) {o : Consumed} → Quiet consumed (consuming key) tk c k o → {p : TokenId} {j : ℕ} →
+    o ≡ Next p j → c ≤ Limit.Tokens → p .0 ≤ Limit.Tokens + 1
+unfolding consuming consume
+name-past key g q h =
+    let e = ap (λ (o : Outcome Nodes (Unit {0})). o .cursor) (came-read (holding-consumed .plain) (g .run [] [] []) q .same) in
+    omega arith
+
 -- after the name and the colon before a type
-module _ {tk tv ns ls : List ℕ} {c k : ℕ} {o : Consumed} (g : Quiet consumed (consuming BaseToken.Identifier) tk c k o)
-    {p : TokenId} {j : ℕ} (q : o ≡ Next p j) (number : ℕ) {o' : Consumed}
-    (d : Quiet consumed (coloned number) tk (p .0) j o') {p' : TokenId} {j' : ℕ} (w : o' ≡ Next p' j') where
-  pub colon-sized : 1 ≤ number → Sized tk tv ns ls c k → Sized tk tv ns ls (p' .0) j'
-  unfolding coloned
-  colon-sized h z =
-      sized-after (consumed-sized _ g q refl z) (holding-consumed .plain)
-      (colon-moves (below (row tk tv)) (omega arith) number (ne-eqb number 0 (λ e. omega arith)) (p .0))
-      (d .run tv ns ls) w .0
+module _ {tk tv ns ls : List ℕ} {c k : ℕ} (number : ℕ) {o : Consumed} (g : Quiet consumed (named number) tk c k o)
+    {p : TokenId} {j : ℕ} (q : o ≡ Next p j) where
+  pub name-sized : 1 ≤ number → Sized tk tv ns ls c k → Sized tk tv ns ls (p .0) j
+  unfolding named
+  name-sized h z =
+      sized-after z (holding-consumed .plain)
+      (consumes (below (row tk tv)) _ refl then λ _ d e.
+      eased {R = λ _ p. c ≤ p} (λ _ _ f. omega arith)
+      (colon-moves (below (row tk tv)) (omega arith) number (ne-eqb number 0 (λ e. omega arith)) d))
+      (g .run tv ns ls) q .0
 
 -- after a name with its type, a member, members, a value
 module _ {tk tv ns ls : List ℕ} {c k : ℕ} (u : ℕ) {r : Parsed} {ns' ls' : List ℕ} {n : NodeId} {p : TokenId} {j : ℕ}
@@ -69,10 +82,8 @@ module _ {tk tv ns ls : List ℕ} {c k : ℕ} (u : ℕ) {r : Parsed} {ns' ls' : 
   typed-sized number h g =
       sized-after z plain-parsed (typed-moves (below (row tk tv)) (omega arith) number u h c) g q .0
 
-  pub typed-slots :
-      (number : ℕ) → Nonzero number → Gives (typed columns (row tk tv) number u) c (nodes ns ls k) r ns' ls' →
-      Slots ns' ls' j
-  typed-slots number h g = slots (typed-sized number h g)
+  pub type-slots : Gives (type columns (row tk tv) u) c (nodes ns ls k) r ns' ls' → Slots ns' ls' j
+  type-slots g = slots (sized-after z plain-parsed (type-moves (below (row tk tv)) (omega arith) u c) g q .0)
 
   pub value-slots : Gives (value columns (row tk tv) u) c (nodes ns ls k) r ns' ls' → Slots ns' ls' j
   value-slots g = slots (sized-after z plain-parsed (value-moves (below (row tk tv)) (omega arith) u c) g q .0)
@@ -103,15 +114,12 @@ module _ {tk tv ns ls : List ℕ} {c k : ℕ} {o : Consumed} (g : Quiet consumed
   pub semicolon-slots : Slots ns ls j
   semicolon-slots = slots semicolon-sized
 
--- after a member that is no list's end
-module _ {tk tv ns ls : List ℕ} {c k : ℕ} (u : ℕ) {o : Optional} (d : Optionally tk BaseToken.BraceRight c o)
-    {r : Parsed} {ns' ls' : List ℕ}
-    (g : Gives (member columns (row tk tv) u) (o .cursor .0) (nodes ns ls k) r ns' ls') {n : NodeId} {p : TokenId}
-    {j : ℕ} (q : r ≡ Node n p j) (z : Sized tk tv ns ls c k) where
+-- after a member
+module _ {tk tv ns ls : List ℕ} {c k : ℕ} (u : ℕ) {r : Parsed} {ns' ls' : List ℕ}
+    (g : Gives (member columns (row tk tv) u) c (nodes ns ls k) r ns' ls') {n : NodeId} {p : TokenId} {j : ℕ}
+    (q : r ≡ Node n p j) (z : Sized tk tv ns ls c k) where
   member-sized : Sized tk tv ns' ls' (p .0) j
-  member-sized =
-      sized-after (past-optional d refl z) plain-parsed
-      (member-moves (below (row tk tv)) (omega arith) u (o .cursor .0)) g q .0
+  member-sized = sized-after z plain-parsed (member-moves (below (row tk tv)) (omega arith) u c) g q .0
 
   pub past-member : p .0 ≤ Limit.Tokens + 1
   past-member = let y = member-sized in omega arith
@@ -121,10 +129,8 @@ module _ {tk tv ns ls : List ℕ} {c k : ℕ} (u : ℕ) {o : Optional} (d : Opti
 
   pub member-kept : {m : ℕ} → m ≤ k → m ≤ j
   member-kept h =
-      let y = past-optional d refl z in
       let (_, _, w) =
-      moved (came-read plain-parsed g q) (member-moves (below (row tk tv)) (omega arith) u (o .cursor .0)) (y .used)
-      (y .at) in
+      moved (came-read plain-parsed g q) (member-moves (below (row tk tv)) (omega arith) u c) (z .used) (z .at) in
       omega (arith, w .grew)
 
 pub none-fits : (l : ActiveList) → ends l ≡ none → (k : ℕ) → past l ≤ k

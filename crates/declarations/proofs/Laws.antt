@@ -11,24 +11,27 @@ use Rattle.codes.specs.declared.NodeId.{NodeId}
 use Rattle.codes.specs.declared.TokenId.{TokenId}
 use Rattle.codes.specs.Answer.{As, Gives, Quiet, Untyped, nodes, token, row}
 use Rattle.codes.proofs.Onto.{Onto, _then_, stays, reads, at-here, answers, declines, shows, told, held, hands-on}
-use Rattle.codes.proofs.Onto.{came-read, plain-parsed, regroup, picked, Rest}
+use Rattle.codes.proofs.Onto.{first, came-read, plain-parsed, regroup, picked, Rest}
 use Rattle.tokens.specs.declared.Optional.{Optional}
 use Rattle.tokens.specs.declared.Consumed.{Consumed}
 use Rattle.tokens.specs.declared.Consumed.the-variants.{Next, Wrong}
-use Rattle.tokens.specs.Answer.{Optionally, consumed, consuming}
-use Rattle.tokens.proofs.Laws.{optioned, holding-consumed}
+use Rattle.tokens.specs.Answer.{Optionally, kindIn, consumed, consuming}
+use Rattle.tokens.proofs.Laws.{optioned, skipped, there, not-there, holding-consumed}
 use Rattle.nodes.specs.declared.ActiveList.{ActiveList}
 use Rattle.nodes.specs.Answer.{ends, appendTwo}
 use Rattle.nodes.proofs.Laws.{active-ends}
+use Rattle.types.specs.declared.Short.{Short}
+use Rattle.types.specs.Answer.{Shorts}
+use Rattle.types.proofs.Laws.{short-type}
 use Rattle.references.specs.declared.Stepped.{Stepped}
 use Rattle.references.specs.declared.Stepped.the-variants.{Last, Refused as Stopped}
 use Rattle.references.specs.Answer.{Unread, stepped, stepping}
-use Rattle.declarations.specs.Answer.{coloned, declaring, structured, opaqueStruct, valued, memberEnding}
+use Rattle.declarations.specs.Answer.{coloned, named, memberTyped, declaring, structured, opaqueStruct, valued, memberEnding}
 use Rattle.rules.specs.Codes.BaseToken as BaseToken
 use Rattle.rules.specs.Codes.ParseNode as ParseNode
 use Rattle.rules.specs.Codes.Refusal as Refusal
 use Rattle.rules.specs.Codes.DeclarationFlag as DeclarationFlag
-use Rattle.rules.specs.Reading.{_>>=_}
+use Rattle.rules.specs.Reading.{_>>=_, consume}
 use Rattle.rules.specs.Columns.{Nodes, columns, append, pushEndOfList}
 use Rattle.rules.specs.Types.{type}
 use Rattle.rules.specs.Expressions.{expression}
@@ -36,60 +39,102 @@ use Rattle.rules.specs.Declarations.{opaque, sizeOfWord, structure, constantEnd
 use Rattle.rules.specs.Declarations.{memberEnd, memberItem, memberList, members, struct, word}
 
 -- a colon, or another token in its place
-module _ (tk : List ℕ) (number c k : ℕ) {o : Optional} (g : Optionally tk BaseToken.Colon c o) where
-  pub colon-found : o .found ≡ true → Quiet consumed (coloned number) tk c k (Next (o .cursor) k)
+module _ (tk : List ℕ) (number c k t : ℕ) (peeked : t ≡ kindIn tk c) where
+  pub colon-found : t ≡ BaseToken.Colon → Quiet consumed (coloned number) tk c k (Next (token (c + 1)) k)
   unfolding coloned colon
-  colon-found e = record { run = λ tv ks ls. answers (at-here _ then reads _ (optioned g tv) then picked _ _ true e) }
-
-  pub colon-missing :
-      o .found ≡ false → Quiet consumed (coloned number) tk c k (Wrong (Refused number (token c) (token c) (o .cursor)
-      k))
-  unfolding coloned colon
-  colon-missing e = record {
-    run = λ tv ks ls. declines (at-here _ then reads _ (optioned g tv) then picked _ _ false e);
+  colon-found e = record {
+    run = λ tv ks ls. answers (at-here _ then reads _ (there tk c t peeked tv _ e));
   }
 
--- a name, a colon and a type
+  pub colon-missing :
+      (t ≡ BaseToken.Colon → ⊥) →
+      Quiet consumed (coloned number) tk c k (Wrong (Refused number (token c) (token c) (token c) k))
+  unfolding coloned colon
+  colon-missing h = record {
+    run = λ tv ks ls. declines (at-here _ then reads _ (not-there tk c t peeked tv _ h));
+  }
+
+-- a name and a colon
+module _ (tk : List ℕ) (number c : ℕ) {k : ℕ} {o : Consumed} (g : Quiet consumed (consuming BaseToken.Identifier) tk c k o)
+  where
+    pub unnamed : {r : Parsed} → o ≡ Wrong r → Quiet consumed (named number) tk c k (Wrong r)
+    unfolding named consuming
+    unnamed w = record { run = λ tv ks ls. hands-on _ stays (held holding-consumed (g .run tv ks ls) w) }
+
+    pub named-read :
+        {p : TokenId} {j : ℕ} → o ≡ Next p j → {o' : Consumed} → Quiet consumed (coloned number) tk (p .0) j o' →
+        Quiet consumed (named number) tk c k o'
+    unfolding named consuming coloned
+    named-read q d = record {
+      run = λ tv ks ls.
+          shows (reads _ (came-read (holding-consumed .plain) (g .run tv ks ls) q)) (d .run tv ks ls);
+    }
+
+-- and a type
 module _ (tk tv : List ℕ) (number u c : ℕ) {k : ℕ} {ks ls : List ℕ} {o : Consumed}
-    (g : Quiet consumed (consuming BaseToken.Identifier) tk c k o) where
+    (g : Quiet consumed (named number) tk c k o) where
+  name-first :
+      Onto (typed columns (row tk tv) number u) c (nodes ks ls k)
+      (named number (row tk tv) >>= λ _. type columns (row tk tv) u) c (nodes ks ls k)
+  unfolding typed named
+  name-first = record {
+    same =
+        sym (regroup (consume (row tk tv) BaseToken.Identifier) (λ _. colon columns (row tk tv) number)
+        (λ _. type columns (row tk tv) u) c (nodes ks ls k) .same);
+  }
+
   pub typed-unnamed :
       {r : Parsed} → o ≡ Wrong r → Gives (typed columns (row tk tv) number u) c (nodes ks ls k) r ks ls
-  unfolding typed consuming
-  typed-unnamed w = hands-on _ stays (held holding-consumed (g .run tv ks ls) w)
+  typed-unnamed w = hands-on _ name-first (held holding-consumed (g .run tv ks ls) w)
 
-  module _ {p : TokenId} {j : ℕ} (q : o ≡ Next p j) {o' : Consumed} (d : Quiet consumed (coloned number) tk (p .0) j o')
-    where
-      pub typed-without-colon :
-          {r : Parsed} → o' ≡ Wrong r → Gives (typed columns (row tk tv) number u) c (nodes ks ls k) r ks ls
-      unfolding typed consuming coloned
-      typed-without-colon w =
-          hands-on _ (reads _ (came-read (holding-consumed .plain) (g .run tv ks ls) q))
-          (held holding-consumed (d .run tv ks ls) w)
+  pub typed-read :
+      {p : TokenId} {j : ℕ} → o ≡ Next p j → {r : Parsed} {ks' ls' : List ℕ} →
+      Gives (type columns (row tk tv) u) (p .0) (nodes ks ls j) r ks' ls' →
+      Gives (typed columns (row tk tv) number u) c (nodes ks ls k) r ks' ls'
+  typed-read w f =
+      shows (name-first then reads _ (came-read (holding-consumed .plain) (g .run tv ks ls) w)) f
 
-      pub typed-read :
-          {p' : TokenId} {j' : ℕ} → o' ≡ Next p' j' → {r : Parsed} {ks' ls' : List ℕ} →
-          Gives (type columns (row tk tv) u) (p' .0) (nodes ks ls j') r ks' ls' →
-          Gives (typed columns (row tk tv) number u) c (nodes ks ls k) r ks' ls'
-      unfolding typed consuming coloned
-      typed-read w f =
-          shows
-          (reads _ (came-read (holding-consumed .plain) (g .run tv ks ls) q) then
-          reads _ (came-read (holding-consumed .plain) (d .run tv ks ls) w)) f
+-- a member after its name and colon
+module _ (tk tv : List ℕ) (u c name : ℕ) {k : ℕ} {ks ls : List ℕ} where
+  module _ {r₁ : Parsed} {ks₁ ls₁ : List ℕ} (g : Gives (type columns (row tk tv) u) c (nodes ks ls k) r₁ ks₁ ls₁) where
+    pub member-untyped :
+        {x : ℕ} {a e p : TokenId} {j : ℕ} → r₁ ≡ Refused x a e p j →
+        Gives (memberTyped u name (row tk tv)) c (nodes ks ls k) r₁ ks₁ ls₁
+    unfolding memberTyped
+    member-untyped q = hands-on _ stays (told g q)
 
--- a member, after its type
-module _ (tk tv : List ℕ) (u c : ℕ) {s : Nodes} {r₁ : Parsed} {ks₁ ls₁ : List ℕ}
-    (g : Gives (typed columns (row tk tv) Refusal.MissingMemberType u) c s r₁ ks₁ ls₁) where
-  pub member-stopped :
-      {x : ℕ} {a e p : TokenId} {k : ℕ} → r₁ ≡ Refused x a e p k → Gives (member columns (row tk tv) u) c s r₁ ks₁ ls₁
+    pub member-typed :
+        {n : NodeId} {p : TokenId} {j : ℕ} → r₁ ≡ Node n p j → {r : Parsed} {ks' ls' : List ℕ} →
+        Gives (append ParseNode.IdentifierAndType name) (p .0) (nodes ks₁ ls₁ j) r ks' ls' →
+        Gives (memberTyped u name (row tk tv)) c (nodes ks ls k) r ks' ls'
+    unfolding memberTyped
+    member-typed q d = shows (reads _ (came-read plain-parsed g q)) d
+
+  pub member-short :
+      {x : Short} → Shorts tk tv c x → x .found ≡ true → 0 < u → {r : Parsed} {ks' ls' : List ℕ} →
+      Gives (appendTwo (x .kind) (x .load) ParseNode.IdentifierAndType name) (c + 1) (nodes ks ls k) r ks' ls' →
+      Gives (memberTyped u name (row tk tv)) c (nodes ks ls k) r ks' ls'
+  unfolding memberTyped appendTwo
+  member-short f e h d = shows (first _ (short-type tk tv u c f e h)) d
+
+-- a member
+module _ (tk tv : List ℕ) (u c : ℕ) {k : ℕ} {ks ls : List ℕ} {o : Consumed}
+    (g : Quiet consumed (named Refusal.MissingMemberType) tk c k o) where
+  pub member-unnamed : {r : Parsed} → o ≡ Wrong r → Gives (member columns (row tk tv) u) c (nodes ks ls k) r ks ls
   unfolding member
-  member-stopped q = hands-on _ (at-here _) (told g q)
+  member-unnamed w =
+      hands-on _ (at-here _ then first _ (name-first tk tv _ u c g) then regroup _ _ _ c _)
+      (held holding-consumed (g .run tv ks ls) w)
 
-  pub member-read :
-      {n : NodeId} {p : TokenId} {k : ℕ} → r₁ ≡ Node n p k → {r : Parsed} {ks ls : List ℕ} →
-      Gives (append ParseNode.IdentifierAndType c) (p .0) (nodes ks₁ ls₁ k) r ks ls →
-      Gives (member columns (row tk tv) u) c s r ks ls
-  unfolding member
-  member-read q d = shows (at-here _ then reads _ (came-read plain-parsed g q)) d
+  pub member-named :
+      {p : TokenId} {j : ℕ} → o ≡ Next p j → {r : Parsed} {ks' ls' : List ℕ} →
+      Gives (memberTyped u c (row tk tv)) (p .0) (nodes ks ls j) r ks' ls' →
+      Gives (member columns (row tk tv) u) c (nodes ks ls k) r ks' ls'
+  unfolding member memberTyped
+  member-named w d =
+      shows
+      (at-here _ then first _ (name-first tk tv _ u c g) then regroup _ _ _ c _ then
+      reads _ (came-read (holding-consumed .plain) (g .run tv ks ls) w)) d
 
 -- after a member
 module _ (tk : List ℕ) (l : ActiveList) (t c : ℕ) {k : ℕ} {ks ls : List ℕ} {o : Consumed}
@@ -123,12 +168,12 @@ module _ (tk tv : List ℕ) (u c : ℕ) (l : ActiveList) {k : ℕ} {ks ls : List
       rw (active-ends l) at g
 
   module _ (x : o .found ≡ false) {r₁ : Parsed} {ks₁ ls₁ : List ℕ}
-      (g : Gives (member columns (row tk tv) u) (o .cursor .0) (nodes ks ls k) r₁ ks₁ ls₁) where
+      (g : Gives (member columns (row tk tv) u) c (nodes ks ls k) r₁ ks₁ ls₁) where
     pub member-item-stopped :
         {y : ℕ} {a e p : TokenId} {j : ℕ} → r₁ ≡ Refused y a e p j →
         As stepped (memberItem columns (row tk tv) u (ends l)) c (nodes ks ls k) (Stopped r₁) ks₁ ls₁
     unfolding memberItem
-    member-item-stopped q = hands-on _ (reads _ (optioned d tv) then picked _ _ false x) (told g q)
+    member-item-stopped q = hands-on _ (reads _ (skipped d x tv)) (told g q)
 
     pub member-item-read :
         {n : NodeId} {p : TokenId} {j : ℕ} → r₁ ≡ Node n p j → {r : Stepped} {ks' ls' : List ℕ} →
@@ -136,7 +181,7 @@ module _ (tk tv : List ℕ) (u c : ℕ) (l : ActiveList) {k : ℕ} {ks ls : List
         As stepped (memberItem columns (row tk tv) u (ends l)) c (nodes ks ls k) r ks' ls'
     unfolding memberItem memberEnding
     member-item-read q f =
-        shows (reads _ (optioned d tv) then picked _ _ false x then reads _ (came-read plain-parsed g q)) (f .run tv)
+        shows (reads _ (skipped d x tv) then reads _ (came-read plain-parsed g q)) (f .run tv)
 
 -- members in braces
 module _ (tk tv : List ℕ) (u c : ℕ) {k : ℕ} {ks ls : List ℕ} {o : Consumed}

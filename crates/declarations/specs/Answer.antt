@@ -1,13 +1,27 @@
 -- The rules that the code equals, of any row, and what ends several of them.
 use Prim.Native.Nat.{ℕ}
 use mathlib.Core.Option.{Option, none}
+use Rattle.rules.specs.Codes.BaseToken as BaseToken
 use Rattle.rules.specs.Codes.ParseNode as ParseNode
-use Rattle.rules.specs.Reading.{Rule, Row, Step, _>>=_}
+use Rattle.rules.specs.Reading.{Rule, Row, Step, _>>=_, consume}
 use Rattle.rules.specs.Columns.{Nodes, Ends, columns, append, pushEndOfList}
+use Rattle.rules.specs.Types.{type}
 use Rattle.rules.specs.Declarations.{opaque, structure, constantEnd, colon, value, memberEnd, members}
 
 unfoldable pub coloned : ℕ → Row → Rule Nodes (Unit {0})
 coloned number row = colon columns row number
+
+-- a name and a colon
+unfoldable pub named : ℕ → Row → Rule Nodes (Unit {0})
+named number row = do
+  _ ← consume row BaseToken.Identifier
+  colon columns row number
+
+-- what follows the colon of the member at a name: its type, and its node
+unfoldable pub memberTyped : ℕ → ℕ → Row → Rule Nodes ℕ
+memberTyped unused name row = do
+  _ ← type columns row unused
+  append ParseNode.IdentifierAndType name
 
 unfoldable pub memberEnding : Option Ends → ℕ → Row → Rule Nodes (Step (Option Ends) (Option Ends))
 memberEnding l t row = memberEnd columns row l t

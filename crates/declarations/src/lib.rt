@@ -10,7 +10,7 @@ ghost use Rattle.codes.specs.Answer.{As, Gives, Quiet, Untyped, Sized, row, nod
 ghost use Rattle.nodes.specs.Answer.{Slots, ends, past};
 ghost use Rattle.tokens.specs.Answer.{consumed};
 ghost use Rattle.references.specs.Answer.{stepped};
-ghost use Rattle.declarations.specs.Answer.{coloned, declaring, structured, opaqueStruct, valued, memberEnding};
+ghost use Rattle.declarations.specs.Answer.{coloned, named, memberTyped, declaring, structured, opaqueStruct, valued, memberEnding};
 use codes::BaseToken;
 use codes::DeclarationFlag;
 use codes::NodeId;
@@ -30,18 +30,18 @@ use references::push_step;
 use tokens::Consumed;
 use tokens::consume;
 use tokens::consume_optional;
+use tokens::peek;
 use types::parse_type;
+use types::short_type;
 
 // A colon; or the refusal of this number at the token in its place, which is not taken.
 fn parse_colon(kinds: &[u8], cursor: TokenId, count: u32, number: u8) -> Consumed
     requires { ⌜ cursor .0 ≤ Most.Tokens + 1 ⌝ }
     ensures { λ r. ⌜ Quiet consumed (coloned number) (now (kinds .entry)) (cursor .0) count r ⌝ }
 {
-    let colon = consume_optional(kinds, cursor, BaseToken::Colon);
-    let after = colon.cursor;
-    if colon.found {
+    if peek(kinds, cursor) == BaseToken::Colon {
         Consumed::Next {
-            cursor: after,
+            cursor: TokenId(cursor.0 + 1),
             count,
         }
     } else {
@@ -50,10 +50,24 @@ fn parse_colon(kinds: &[u8], cursor: TokenId, count: u32, number: u8) -> Consume
                 number,
                 start: cursor,
                 end: cursor,
-                cursor: after,
+                cursor,
                 count,
             },
         }
+    }
+}
+
+// A name and a colon. Where the colon is missing, the refusal has this number.
+fn parse_name(kinds: &[u8], cursor: TokenId, count: u32, number: u8) -> Consumed
+    requires { ⌜ cursor .0 ≤ Most.Tokens ⌝ }
+    ensures { λ r. ⌜ Quiet consumed (named number) (now (kinds .entry)) (cursor .0) count r ⌝ }
+{
+    match consume(kinds, cursor, count, BaseToken::Identifier) {
+        Consumed::Next {
+            cursor: after,
+            count: same,
+        } => parse_colon(kinds, after, same, number),
+        Consumed::Wrong { refusal } => Consumed::Wrong { refusal },
     }
 }
 
@@ -71,19 +85,55 @@ fn parse_typed_name(
     requires { ⌜ Sized (now kinds) (now types) (now «node_kinds») (now «node_loads») (cursor .0) count × (1 ≤ number) ⌝ }
     ensures { λ r. ⌜ Gives (typed columns (row (now (kinds .entry)) (now (types .entry))) number unused) (cursor .0) (nodes (now («node_kinds» .entry)) (now («node_loads» .entry)) count) r (now («node_kinds» .exit)) (now («node_loads» .exit)) ⌝ }
 {
-    match consume(kinds, cursor, count, BaseToken::Identifier) {
+    match parse_name(kinds, cursor, count, number) {
         Consumed::Next {
-            cursor: named,
-            count: same,
-        } => match parse_colon(kinds, named, same, number) {
-            Consumed::Next {
-                cursor: after,
-                count: used,
-            } => parse_type(kinds, types, node_kinds, node_loads, after, used, unused),
-            Consumed::Wrong { refusal } => refusal,
-        },
+            cursor: after,
+            count: used,
+        } => parse_type(kinds, types, node_kinds, node_loads, after, used, unused),
         Consumed::Wrong { refusal } => refusal,
     }
+}
+
+// The type of the member at `name`, and the member's node. A type of a single token is read here: parse_type is not
+// compiled into its callers, and a call for each member costs as much as all else of it.
+fn parse_member_type(
+    kinds: &[u8],
+    types: &[u8],
+    node_kinds: &mut [u8],
+    node_loads: &mut [u32],
+    cursor: TokenId,
+    count: u32,
+    unused: u32,
+    name: TokenId,
+) -> Parsed
+    requires { ⌜ Sized (now kinds) (now types) (now «node_kinds») (now «node_loads») (cursor .0) count ⌝ }
+    ensures { λ r. ⌜ Gives (memberTyped unused (name .0) (row (now (kinds .entry)) (now (types .entry)))) (cursor .0) (nodes (now («node_kinds» .entry)) (now («node_loads» .entry)) count) r (now («node_kinds» .exit)) (now («node_loads» .exit)) ⌝ }
+{
+    let kind = ParseNode::IdentifierAndType;
+    let short = short_type(kinds, types, cursor);
+    if short.found && unused > 0 {
+        let next = TokenId(cursor.0 + 1);
+        return push_two(
+            node_kinds,
+            node_loads,
+            next,
+            count,
+            short.kind,
+            short.load,
+            kind,
+            name.0,
+        );
+    }
+    let value_type = parse_type(kinds, types, node_kinds, node_loads, cursor, count, unused);
+    let Parsed::Node {
+        root: _,
+        cursor: after,
+        count: used,
+    } = value_type
+    else {
+        return value_type;
+    };
+    push(node_kinds, node_loads, after, used, kind, name.0)
 }
 
 // A member: a name, a colon and a type.
@@ -99,27 +149,24 @@ fn parse_member(
     requires { ⌜ Sized (now kinds) (now types) (now «node_kinds») (now «node_loads») (cursor .0) count ⌝ }
     ensures { λ r. ⌜ Gives (member columns (row (now (kinds .entry)) (now (types .entry))) unused) (cursor .0) (nodes (now («node_kinds» .entry)) (now («node_loads» .entry)) count) r (now («node_kinds» .exit)) (now («node_loads» .exit)) ⌝ }
 {
-    let number = Refusal::MissingMemberType;
-    let value_type = parse_typed_name(
-        kinds,
-        types,
-        node_kinds,
-        node_loads,
-        cursor,
-        count,
-        unused,
-        number,
-    );
-    let Parsed::Node {
-        root: _,
-        cursor: after,
-        count: used,
-    } = value_type
-    else {
-        return value_type;
-    };
-    let kind = ParseNode::IdentifierAndType;
-    push(node_kinds, node_loads, after, used, kind, cursor.0)
+    match parse_name(kinds, cursor, count, Refusal::MissingMemberType) {
+        Consumed::Next {
+            cursor: after,
+            count: same,
+        } => {
+            parse_member_type(
+                kinds,
+                types,
+                node_kinds,
+                node_loads,
+                after,
+                same,
+                unused,
+                cursor,
+            )
+        }
+        Consumed::Wrong { refusal } => refusal,
+    }
 }
 
 // After a member: its comma, and then the member becomes an item of the list.
@@ -167,7 +214,7 @@ fn parse_member_item(
             count,
         };
     }
-    let member = parse_member(kinds, types, node_kinds, node_loads, from, count, unused);
+    let member = parse_member(kinds, types, node_kinds, node_loads, cursor, count, unused);
     let Parsed::Node {
         root,
         cursor: after,

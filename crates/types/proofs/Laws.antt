@@ -1,7 +1,8 @@
 -- How the answers of the readers of types follow from those of the readers that they call, a law for each return.
 use mathlib.Core.Path.{_≡_, refl, sym, _∙_}
-use mathlib.Core.Bool.{Bool, true, false}
+use mathlib.Core.Bool.{Bool, true, false, true≢false}
 use mathlib.Core.List.{List, [], _∷_}
+use mathlib.Core.Logic.{_≢_}
 use Prim.Native.Nat.{ℕ, zero, suc, _+_, _-_, _≤_, _<_}
 use lib.ListN.{length}
 use lib.Dec.{ltb}
@@ -14,22 +15,23 @@ use Rattle.codes.specs.declared.NodeId.{NodeId}
 use Rattle.codes.specs.declared.TokenId.{TokenId}
 use Rattle.codes.specs.Answer.{Gives, Quiet, nodes, token, nodeId, row, refusal}
 use Rattle.codes.proofs.Onto.{Onto, _then_, stays, reads, at-here, takes, answers, declines, shows, told, held}
-use Rattle.codes.proofs.Onto.{hands-on, came-read, plain-parsed, Rest, beside, picked}
+use Rattle.codes.proofs.Onto.{first, hands-on, came-read, plain-parsed, Rest, beside, picked}
 use Rattle.tokens.specs.declared.Consumed.{Consumed}
 use Rattle.tokens.specs.declared.Consumed.the-variants.{Next, Wrong}
 use Rattle.tokens.specs.Answer.{kindIn, consumed, consuming}
 use Rattle.tokens.proofs.Laws.{holding-consumed}
 use Rattle.tokens.proofs.Bounds.{in-row, past-token}
+use Rattle.types.specs.declared.Short.{Short}
 use Rattle.types.specs.declared.Start.{Start}
 use Rattle.types.specs.declared.Start.the-variants.{Leaf, Around, NoType}
-use Rattle.types.specs.Answer.{sized, finishing, Onward, Starts, spanning}
+use Rattle.types.specs.Answer.{sized, finishing, Onward, Starts, Shorts, spanning}
 use Rattle.types.proofs.Sizes.{holding-sized, no-leaf}
 use Rattle.types.proofs.Bounds.{leaf-on, around-on, after-size, size-kind}
 use Rattle.rules.specs.Codes.{pick}
 use Rattle.rules.specs.Codes.BaseToken as BaseToken
 use Rattle.rules.specs.Codes.ParseNode as ParseNode
 use Rattle.rules.specs.Codes.Refusal as Refusal
-use Rattle.rules.specs.Reading.{Rule, Row, _>>=_, pure, choose, consume}
+use Rattle.rules.specs.Reading.{Rule, Row, _>>=_, pure, here, choose, consume}
 use Rattle.rules.specs.Columns.{Nodes, append, columns}
 use Rattle.rules.specs.Types.{arraySize, pointerTo, viewOf, arrayOf, innerFrom, innerType, type}
 use Rattle.rules.proofs.Forward.{Nonzero}
@@ -194,39 +196,51 @@ module _ (start c : ℕ) {s : Nodes} {r₁ : Parsed} {ks₁ ls₁ : List ℕ}
   unfolding spanning
   span-read q d = shows (reads _ (came-read plain-parsed g q)) d
 
--- a type where no nesting is left, or of one token, by its node
-module _ (tk tv : List ℕ) (u c : ℕ) where
-  pub type-too-deep :
-      (k : ℕ) (ks ls : List ℕ) → u ≡ 0 →
-      Gives (type columns (row tk tv) u) c (nodes ks ls k) (refusal Refusal.NestingExceeded c c c k) ks ls
-  type-too-deep k ks ls e = type-stopped tk tv u c (too-deep tk tv u c k ks ls e) refl
+-- a type of one token, by its token
+module _ (tk tv : List ℕ) (c t : ℕ) (peeked : t ≡ kindIn tk c) where
+  pub short-keyword :
+      t ≡ BaseToken.ValueTypeKeyword → {v : ℕ} → v ≡ kindIn tv c →
+      Shorts tk tv c (record { found = true; kind = ParseNode.SimpleValueType; load = v })
+  short-keyword e q = record { starts = λ _ k. begins tk tv c t k peeked (keyword q) e }
 
-  module _ {s : Nodes} {r : Parsed} {ks ls : List ℕ} where
-    one-token :
-        (kind load : ℕ) → Gives (append kind load) (c + 1) s r ks ls →
-        Gives (innerType columns (row tk tv) u) c s r ks ls → Gives (type columns (row tk tv) u) c s r ks ls
-    unfolding append
-    one-token kind load g d = go (ltb (s .count) (length (s .kinds))) refl
-      where
-        go : (b : Bool) → ltb (s .count) (length (s .kinds)) ≡ b → Gives (type columns (row tk tv) u) c s r ks ls
-        go true e =
-            let q : r ≡ Node (nodeId (s .count)) (token (c + 1)) (s .count + 1) = g .reply ∙ rw e refl in
-            rw q (type-single tk tv u c d q (omega arith))
-        go false e =
-            let q : r ≡ refusal Refusal.NoSlot (c + 1) (c + 1) (c + 1) (s .count) = g .reply ∙ rw e refl in
-            type-stopped tk tv u c d q
+  pub short-name :
+      t ≡ BaseToken.Identifier →
+      Shorts tk tv c (record { found = true; kind = ParseNode.UnresolvedStructOrWordVT; load = c })
+  short-name e = record { starts = λ _ k. begins tk tv c t k peeked name e }
 
-    module _ (t : ℕ) (left : u ≡ 0 → ⊥) (peeked : t ≡ kindIn tk c) where
-      pub keyword-type :
-          t ≡ BaseToken.ValueTypeKeyword → {v : ℕ} → v ≡ kindIn tv c →
-          Gives (append ParseNode.SimpleValueType v) (c + 1) s r ks ls → Gives (type columns (row tk tv) u) c s r ks ls
-      keyword-type e q g =
-          let b = begins tk tv c t (s .count) peeked (keyword q) e in
-          one-token _ _ g (leaf-read tk tv u c (s .count) left b refl g)
+pub not-short : (tk tv : List ℕ) (c kind load : ℕ) → Shorts tk tv c (record { found = false; kind = kind; load = load })
+not-short tk tv c kind load = record { starts = λ e. absurd (true≢false (sym e)) }
 
-      pub name-type :
-          t ≡ BaseToken.Identifier → Gives (append ParseNode.UnresolvedStructOrWordVT c) (c + 1) s r ks ls →
-          Gives (type columns (row tk tv) u) c s r ks ls
-      name-type e g =
-          let b = begins tk tv c t (s .count) peeked name e in
-          one-token _ _ g (leaf-read tk tv u c (s .count) left b refl g)
+-- Such a type is its node: after one token there is no span.
+module _ (tk tv : List ℕ) (u c : ℕ) {s : Nodes} where
+  no-span :
+      (kind load : ℕ) (f : ℕ → ℕ → Rule Nodes ℕ) →
+      Onto (append kind load >>= λ t. here >>= λ end. pick (ltb (c + 1) end) (f t end) (pure t)) (c + 1) s
+      (append kind load) (c + 1) s
+  unfolding append _>>=_ here
+  no-span kind load f = go (ltb (s .count) (length (s .kinds))) refl
+    where
+      go :
+          (b : Bool) → ltb (s .count) (length (s .kinds)) ≡ b →
+          Onto (append kind load >>= λ t. here >>= λ end. pick (ltb (c + 1) end) (f t end) (pure t)) (c + 1) s
+          (append kind load) (c + 1) s
+      go true e = record { same = rw (e, le-ltb (c + 1) (c + 1) (omega arith)) refl }
+      go false e = record { same = rw e refl }
+
+  pub short-type :
+      {x : Short} → Shorts tk tv c x → x .found ≡ true → 0 < u →
+      Onto (type columns (row tk tv) u) c s (append (x .kind) (x .load)) (c + 1) s
+  unfolding type
+  short-type f e h =
+      let left : u ≢ 0 = λ z. omega arith in
+      at-here _ then
+      first _
+      (rw (deeper (row tk tv) u left)
+      (record { same = leaf-on (f .starts e (s .count)) refl .same _ (s .kinds) (s .loads) }))
+      then no-span _ _ _
+
+pub short-read :
+    (tk tv : List ℕ) (u c : ℕ) {s : Nodes} {r : Parsed} {ks ls : List ℕ} {x : Short} → Shorts tk tv c x →
+    x .found ≡ true → 0 < u → Gives (append (x .kind) (x .load)) (c + 1) s r ks ls →
+    Gives (type columns (row tk tv) u) c s r ks ls
+short-read tk tv u c f e h g = shows (short-type tk tv u c f e h) g

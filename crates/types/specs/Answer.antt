@@ -1,9 +1,11 @@
 -- The answers of the code as the rules give them.
-use Prim.Native.Nat.{ℕ}
+use Prim.Native.Nat.{ℕ, _+_}
+use mathlib.Core.Bool.{true}
 use mathlib.Core.Path.{_≡_}
 use mathlib.Core.List.{List}
 use lib.Dec.{eqb}
 use Rattle.codes.specs.Answer.{Form, Gives, Sized, nodes, row, token}
+use Rattle.types.specs.declared.Short.{Short}
 use Rattle.types.specs.declared.Start.{Start}
 use Rattle.types.specs.declared.Start.the-variants.{Leaf, Around, NoType}
 use Rattle.rules.specs.Codes.{pick}
@@ -44,6 +46,11 @@ Starts kinds types c count (Around kind load p j) =
 Starts kinds types c count (NoType r) =
     (element : Rule Nodes ℕ) (ks ls : List ℕ) →
     Gives (innerFrom columns (row kinds types) element) c (nodes ks ls count) r ks ls
+
+-- an inner type of a single token starts with its node
+pub record Shorts (kinds types : List ℕ) (c : ℕ) (r : Short) : Type 0 where
+  pub starts :
+      r .found ≡ true → (count : ℕ) → Starts kinds types c count (Leaf (r .kind) (r .load) (token (c + 1)) count)
 
 -- the span of a type, by its first token and the one after it
 unfoldable pub spanning : ℕ → ℕ → Rule Nodes ℕ

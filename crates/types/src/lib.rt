@@ -6,7 +6,7 @@ ghost use Rattle.rules.specs.Types.{innerType, type, arraySize};
 ghost use Rattle.rules.specs.Columns.{columns};
 ghost use Rattle.codes.specs.Answer.{Gives, Quiet, Sized, row, nodes};
 ghost use Rattle.nodes.specs.Answer.{Slots};
-ghost use Rattle.types.specs.Answer.{sized, closing, Starts, finishing, spanning};
+ghost use Rattle.types.specs.Answer.{sized, closing, Starts, Shorts, finishing, spanning};
 use codes::BaseToken;
 use codes::ParseNode;
 use codes::Parsed;
@@ -23,6 +23,13 @@ enum Start {
     Leaf(u8, u32, TokenId, u32),
     Around(u8, u32, TokenId, u32),
     NoType(Parsed),
+}
+
+// Whether a type is of a single token, and then its node's kind and load.
+pub struct Short {
+    pub found: bool,
+    pub kind: u8,
+    pub load: u32,
 }
 
 // The bracket that closes a size.
@@ -231,6 +238,29 @@ fn parse_any_type(
     }
 }
 
+// The node of a type of a single token, if there is one.
+pub fn short_type(kinds: &[u8], types: &[u8], cursor: TokenId) -> Short
+    ensures { λ r. ⌜ Shorts (now (kinds .entry)) (now (types .entry)) (cursor .0) r ⌝ }
+{
+    match peek(kinds, cursor) {
+        BaseToken::ValueTypeKeyword => Short {
+            found: true,
+            kind: ParseNode::SimpleValueType,
+            load: peek(types, cursor) as u32,
+        },
+        BaseToken::Identifier => Short {
+            found: true,
+            kind: ParseNode::UnresolvedStructOrWordVT,
+            load: cursor.0,
+        },
+        _ => Short {
+            found: false,
+            kind: 0,
+            load: 0,
+        },
+    }
+}
+
 // A type. One of a single token is read here: the reader that calls itself costs more to call than this takes.
 pub fn parse_type(
     kinds: &[u8],
@@ -244,34 +274,10 @@ pub fn parse_type(
     requires { ⌜ Sized (now kinds) (now types) (now «node_kinds») (now «node_loads») (cursor .0) count ⌝ }
     ensures { λ r. ⌜ Gives (type columns (row (now (kinds .entry)) (now (types .entry))) unused) (cursor .0) (nodes (now («node_kinds» .entry)) (now («node_loads» .entry)) count) r (now («node_kinds» .exit)) (now («node_loads» .exit)) ⌝ }
 {
-    if unused == 0 {
-        let number = Refusal::NestingExceeded;
-        return Parsed::Refused {
-            number,
-            start: cursor,
-            end: cursor,
-            cursor,
-            count,
-        };
+    let short = short_type(kinds, types, cursor);
+    if short.found && unused > 0 {
+        let next = TokenId(cursor.0 + 1);
+        return push(node_kinds, node_loads, next, count, short.kind, short.load);
     }
-    let at = cursor.0;
-    let next = TokenId(at + 1);
-    match peek(kinds, cursor) {
-        BaseToken::ValueTypeKeyword => {
-            let load = peek(types, cursor) as u32;
-            push(
-                node_kinds,
-                node_loads,
-                next,
-                count,
-                ParseNode::SimpleValueType,
-                load,
-            )
-        }
-        BaseToken::Identifier => {
-            let kind = ParseNode::UnresolvedStructOrWordVT;
-            push(node_kinds, node_loads, next, count, kind, at)
-        }
-        _ => parse_any_type(kinds, types, node_kinds, node_loads, cursor, count, unused),
-    }
+    parse_any_type(kinds, types, node_kinds, node_loads, cursor, count, unused)
 }

@@ -14,5 +14,6 @@ parse-colon-spec =
     tie.close
     (tie.spec
     (λ c κs. search needs)
+    (λ c. search needs)
     returns
     returns-2)

@@ -1,17 +1,17 @@
-use Rattle.declarations.proofs.Laws.{member-stopped, member-read}
-use Rattle.declarations.proofs.Bounds.{typed-slots}
+use Rattle.declarations.proofs.Laws.{member-named, member-unnamed}
+use Rattle.declarations.proofs.Bounds.{name-sized}
 use borrow.Author.Needs.{needs}
 use Rattle.declarations.proofs.parse_member.Statement.{statement}
 use Rattle.declarations.proofs.parse_member.Tie as tie
 
-returns : tie.Need-returns
-returns c = search (needs, member-stopped)
+parse-member-type-requires : tie.Need-parse-member-type-requires
+parse-member-type-requires c κs = search (needs, name-sized)
 
-push-requires : tie.Need-push-requires
-push-requires c κs = search (needs, typed-slots)
+returns : tie.Need-returns
+returns c = search (needs, member-named)
 
 returns-2 : tie.Need-returns-2
-returns-2 c = search (needs, member-read)
+returns-2 c = search (needs, member-unnamed)
 
 pub parse-member-spec : {M : Type 1} → statement M
 parse-member-spec =
@@ -19,11 +19,9 @@ parse-member-spec =
     (tie.spec
     (λ c κs. search needs)
     (λ c. search needs)
+    parse-member-type-requires
     (λ c. search needs)
     (λ c. search needs)
     (λ c. search needs)
     returns
-    push-requires
-    (λ c. search needs)
-    (λ c. search needs)
     returns-2)

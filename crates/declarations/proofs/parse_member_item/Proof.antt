@@ -1,15 +1,11 @@
 use Rattle.declarations.proofs.Laws.{members-end, member-item-stopped, member-item-read}
 use Rattle.declarations.proofs.Bounds.{past-member, member-slots, member-kept}
-use Rattle.tokens.proofs.Bounds.{past-optional}
 use borrow.Author.Needs.{needs}
 use Rattle.declarations.proofs.parse_member_item.Statement.{statement}
 use Rattle.declarations.proofs.parse_member_item.Tie as tie
 
 returns : tie.Need-returns
 returns c = search (needs, members-end)
-
-parse-member-requires : tie.Need-parse-member-requires
-parse-member-requires c κs = search (needs, past-optional)
 
 returns-2 : tie.Need-returns-2
 returns-2 c = search (needs, member-item-stopped)
@@ -26,7 +22,7 @@ parse-member-item-spec =
     (tie.spec
     (λ c κs. search needs)
     returns
-    parse-member-requires
+    (λ c κs. search needs)
     (λ c. search needs)
     (λ c. search needs)
     (λ c. search needs)
