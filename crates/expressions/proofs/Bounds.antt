@@ -22,7 +22,7 @@ use Rattle.tokens.proofs.Bounds.{past-optional, past-token, past-consumed, same
 use Rattle.casts.specs.Answer.{Casting}
 use Rattle.lists.specs.declared.Owner.{Owner}
 use Rattle.openings.specs.declared.Opening.{Opening}
-use Rattle.openings.specs.declared.Opening.the-variants.{List as Items, Reference, Name, Group}
+use Rattle.openings.specs.declared.Opening.the-variants.{List as Items, Fields, Reference, Name, Group}
 use Rattle.openings.specs.Answer.{Opens, Starts, primaryOr}
 use Rattle.expressions.specs.Answer.{prefixEnd, unaries, operand, factors, within, dereferring}
 use borrow.Author.Tests.{eqb-true}
@@ -78,6 +78,10 @@ module _ (tk : List ℕ) (piped : Bool) (c k : ℕ) {o : Opening} (g : Starts pi
   pub list-sized : {owner : Owner} {p : TokenId} {j : ℕ} → o ≡ Items p j owner → Sized tk tv ks ls (p .0) j
   unfolding Starts Opens
   list-sized q = (rw q at g) .sized tv ks ls z
+
+  pub fields-sized : {name p : TokenId} {j : ℕ} → o ≡ Fields p j name → Sized tk tv ks ls (p .0) j
+  unfolding Starts Opens
+  fields-sized q = (rw q at g) .sized tv ks ls z
 
   pub reference-sized :
       {depth : ℕ} {name : TokenId} {isPointer : Bool} {p : TokenId} {j : ℕ} → o ≡ Reference p j isPointer depth name →

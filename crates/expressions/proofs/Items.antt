@@ -18,6 +18,7 @@ use Rattle.nodes.specs.Answer.{Slots, ends, active, past}
 use Rattle.nodes.proofs.Laws.{active-ends, past-none}
 use Rattle.nodes.proofs.Bounds.{slots}
 use Rattle.lists.specs.declared.Owner.{Owner as Code}
+use Rattle.lists.specs.declared.Owner.the-variants.{Call, Elements}
 use Rattle.lists.specs.declared.Turn.{Turn}
 use Rattle.lists.specs.declared.Turn.the-variants.{More, Last, Refused as Stopped}
 use Rattle.lists.specs.Answer.{Counted, ownerOf, turned}
@@ -103,6 +104,11 @@ closings (call name builtin) = (refl, refl)
 closings (structural name) = (refl, refl)
 closings elements = (refl, refl)
 
+-- no list of expressions ends in a brace
+pub not-brace : (owner : Code) {closing : ℕ} → closing ≡ closingOf (ownerOf owner) → eqb closing BaseToken.BraceRight ≡ false
+not-brace (Call name builtin) e = rw e refl
+not-brace Elements e = rw e refl
+
 -- the items by what the list belongs to
 one-item :
     (at : Row) (u : ℕ) (owner : Owner) → items columns at (expression columns at u) owner ≡
@@ -113,36 +119,36 @@ one-item at u (structural name) = refl
 one-item at u elements = refl
 
 -- Between two items of a list: what is left of it.
-abbrev pub Items : List ℕ → List ℕ → ℕ → Code → ℕ → ℕ → Nodes → ActiveList → ℕ → ℕ → Nodes → Type 0
+abbrev pub Items : List ℕ → List ℕ → ℕ → Owner → ℕ → ℕ → Nodes → ActiveList → ℕ → ℕ → Nodes → Type 0
 Items tk tv u owner closing c₀ s₀ l i c s =
-    (closing ≡ closingOf (ownerOf owner)) ×
-    Going (within (listed (ownerOf owner)) u (row tk tv)) c₀ s₀
+    (closing ≡ closingOf owner) ×
+    Going (within (listed owner) u (row tk tv)) c₀ s₀
     (λ n m. repeat (λ m. listItems closing m u (row tk tv)) (refuse Refusal.OutOfRounds 0 0) n m >>= λ m.
-    listEnd columns (ownerOf owner) m) (length tk) (ends l, i) c s
+    listEnd columns owner m) (length tk) (ends l, i) c s
 
 pub first-item :
-    (tk tv : List ℕ) (u : ℕ) (owner : Code) (closing c : ℕ) (s : Nodes) → closing ≡ closingOf (ownerOf owner) →
+    (tk tv : List ℕ) (u : ℕ) (owner : Owner) (closing c : ℕ) (s : Nodes) → closing ≡ closingOf owner →
     (l : ActiveList) → ends l ≡ none → Items tk tv u owner closing c s l 0 c s
 unfolding within listed commaList loop listItems
 first-item tk tv u owner closing c s e l q =
-    (e, sets-out _ (record { same = rw (one-item (row tk tv) u (ownerOf owner), e, q) refl }))
+    (e, sets-out _ (record { same = rw (one-item (row tk tv) u owner, e, q) refl }))
 
 pub none-fits : (l : ActiveList) → ends l ≡ none → (k : ℕ) → past l ≤ k
 none-fits l q k = let e = past-none l q in omega arith
 
-module _ (tk tv : List ℕ) (u : ℕ) (owner : Code) (closing c₀ : ℕ) {s₀ : Nodes} (l : ActiveList) (i c k : ℕ)
+module _ (tk tv : List ℕ) (u : ℕ) (owner : Owner) (closing c₀ : ℕ) {s₀ : Nodes} (l : ActiveList) (i c k : ℕ)
     {ks ls : List ℕ} (h : Items tk tv u owner closing c₀ s₀ l i c (nodes ks ls k)) {z : Turn} {ks₁ ls₁ : List ℕ}
     (g : As turned (listItems closing (ends l, i) u (row tk tv)) c (nodes ks ls k) z ks₁ ls₁) where
   pub list-refused :
-      {r : Parsed} → z ≡ Stopped r → Gives (within (listed (ownerOf owner)) u (row tk tv)) c₀ s₀ r ks₁ ls₁
+      {r : Parsed} → z ≡ Stopped r → Gives (within (listed owner) u (row tk tv)) c₀ s₀ r ks₁ ls₁
   list-refused w =
       hands-on _ (h .1 .onto then first _ (round _ _ (h .1 .rounds) stays) then regroup _ _ _ _ _)
       (held holding-turned g w)
 
   pub list-read :
       {m : ActiveList} {n : ℕ} {p : TokenId} {j : ℕ} → z ≡ Last m n p j → {r : Parsed} {ks₂ ls₂ : List ℕ} →
-      Gives (listEnd columns (ownerOf owner) (ends m, n)) (p .0) (nodes ks₁ ls₁ j) r ks₂ ls₂ →
-      Gives (within (listed (ownerOf owner)) u (row tk tv)) c₀ s₀ r ks₂ ls₂
+      Gives (listEnd columns owner (ends m, n)) (p .0) (nodes ks₁ ls₁ j) r ks₂ ls₂ →
+      Gives (within (listed owner) u (row tk tv)) c₀ s₀ r ks₂ ls₂
   list-read {m} {n} w d =
       shows
       (h .1 .onto then reads _ (round-last _ _ (h .1 .rounds)
@@ -154,7 +160,7 @@ module _ (tk tv : List ℕ) (u : ℕ) (owner : Code) (closing c₀ : ℕ) {s₀ 
         Sized tk tv ks₁ ls₁ p j × Round 0 c b p × Fits (heldIn b) (nodes ks₁ ls₁ j)
     unfolding listItems
     turn-after b q =
-        let (n, n') = closings (ownerOf owner) in
+        let (n, n') = closings owner in
         let (a, e) =
         sized-after y (holding-turned .plain)
         (list-item (below (row tk tv)) (omega arith) (item-moves (row tk tv) u closing) closing

@@ -3,6 +3,7 @@ use mathlib.Core.Path.{_≡_, refl, sym, _∙_}
 use mathlib.Core.Bool.{Bool, true, false, not}
 use mathlib.Core.List.{List, [], _∷_}
 use Prim.Native.Nat.{ℕ, zero, suc, _+_, _-_}
+use native.Mathlib.Omega.{arith}
 use native.Mathlib.Numerals.{sub-one}
 use lib.Dec.{eqb}
 use borrow.Author.Tests.{ne-eqb, eqb-true, eqb-false}
@@ -27,10 +28,10 @@ use Rattle.lists.specs.declared.Turn.the-variants.{Last, Refused as Stopped}
 use Rattle.nodes.specs.declared.ActiveList.{ActiveList}
 use Rattle.nodes.specs.Answer.{ends}
 use Rattle.nodes.proofs.Laws.{active-ends}
-use Rattle.literals.specs.Answer.{Literal}
+use Rattle.literals.specs.Answer.{Literal, Lone}
 use Rattle.openings.specs.declared.Opening.{Opening}
-use Rattle.openings.specs.declared.Opening.the-variants.{List as Items, Reference, Name, Group, Literal as Plainly}
-use Rattle.openings.specs.declared.Opening.the-variants.{Refused as Unopened}
+use Rattle.openings.specs.declared.Opening.the-variants.{List as Items, Fields, Reference, Name, Group}
+use Rattle.openings.specs.declared.Opening.the-variants.{Literal as Plainly, Refused as Unopened}
 use Rattle.openings.specs.Answer.{Holds, Onward, Opens, Starts, listed, referred, alone as named, grouped, primaryOr}
 use Rattle.expressions.specs.Answer.{prefixEnd, unaryEnd, sums, unaries, factors, within, advancing, dereferring}
 use Rattle.expressions.specs.Answer.{listItems, fields}
@@ -41,9 +42,9 @@ use Rattle.rules.specs.Codes.UnaryOp as UnaryOp
 use Rattle.rules.specs.Codes.BinaryOp as BinaryOp
 use Rattle.rules.specs.Codes.{pick}
 use Rattle.rules.specs.Reading.{Row, Rule, Result, ok, no, next, pure, choose, _>>=_, optional}
-use Rattle.rules.specs.Columns.{Nodes, columns}
+use Rattle.rules.specs.Columns.{Nodes, append, columns}
 use Rattle.rules.specs.Types.{type}
-use Rattle.rules.specs.Expressions.{binary, advanced, singular, singularEnd, sizeOf, listItem, field, expression}
+use Rattle.rules.specs.Expressions.{structural, binary, advanced, singular, singularEnd, sizeOf, listItem, field, expression}
 use Rattle.rules.specs.Expressions.{nameAlone, parenthesized, prefix, prefixed, lengthOf, unary}
 
 -- the operand's place, by the first token of a unary
@@ -62,6 +63,13 @@ NoPrefix t = Rest t (Unit {0}) (BaseToken.Pipe ∷ BaseToken.Exclamation ∷ Bas
 
 pub prefix-none : (t c : ℕ) → NoPrefix t → c ≡ prefixEnd t c
 prefix-none t c h = rw (ne-eqb _ _ (h .0 .0 .1), ne-eqb _ _ (h .0 .1), ne-eqb _ _ (h .1)) refl
+
+-- an operand where the unary is has no prefix
+no-prefix : (t c : ℕ) → prefixEnd t c ≡ c → NoPrefix t
+no-prefix t c q = (((tt, none pipe), none exclamation), none minus)
+  where
+    none : {key : ℕ} → Prefixes key → t ≡ key → ⊥
+    none p e = let x = prefix-next t c p e in omega (arith, q)
 
 -- the unary operators
 pub data Operator : ℕ → ℕ → Type 0 where
@@ -101,6 +109,15 @@ deeper : (row : Row) (u : ℕ) → (u ≡ 0 → ⊥) → expression columns row 
 unfolding expression sums
 deeper row zero h = absurd (h refl)
 deeper row (suc m) h = rw (sub-one (suc m)) refl
+
+-- a number and nothing more
+pub expression-lone :
+    (tk tv : List ℕ) (u c : ℕ) → (u ≡ 0 → ⊥) → {b : Bool} → Lone tk c b → b ≡ true → {s : Nodes} {r : Parsed}
+    {ks ls : List ℕ} → Gives (append ParseNode.UntypedIntegerLiteral c) (c + 1) s r ks ls →
+    Gives (expression columns (row tk tv) u) c s r ks ls
+unfolding sums
+expression-lone tk tv u c h l e {s} g =
+    rw (deeper (row tk tv) u h) (shows (record { same = l .whole e tv _ _ s }) g)
 
 pub expression-read :
     (tk tv : List ℕ) (u c : ℕ) → (u ≡ 0 → ⊥) → {s : Nodes} {r : Parsed} {ks ls : List ℕ} →
@@ -178,6 +195,13 @@ module _ (tk tv : List ℕ) (u : ℕ) (piped : Bool) (c k : ℕ) {ks ls : List �
         Gives (within (primaryOr piped) u (row tk tv)) c (nodes ks ls k) r ks' ls'
     unfolding Starts Opens
     list-opened q d = onward (rw q at g) d
+
+    pub fields-opened :
+        {name p : TokenId} {j : ℕ} → o ≡ Fields p j name → {r : Parsed} {ks' ls' : List ℕ} →
+        Gives (within (listed (structural (name .0))) u (row tk tv)) (p .0) (nodes ks ls j) r ks' ls' →
+        Gives (within (primaryOr piped) u (row tk tv)) c (nodes ks ls k) r ks' ls'
+    unfolding Starts Opens
+    fields-opened q d = onward (rw q at g) d
 
     pub reference-opened :
         {depth : ℕ} {name : TokenId} {isPointer : Bool} {p : TokenId} {j : ℕ} → o ≡ Reference p j isPointer depth name →
@@ -344,6 +368,12 @@ module _ (tk tv : List ℕ) (u c t : ℕ) (peeked : t ≡ kindIn tk c) {s : Node
           Gives (unaries u (row tk tv)) c s r ks ls
       unary-read q f = shows (unary-on then reads _ (came-read plain-parsed (rw w at g) q)) (f .run tv)
 
+      -- without a prefix the operand is the whole
+      pub unary-plain :
+          {m : NodeId} {p : TokenId} {k : ℕ} → r₁ ≡ Node m p k → from .0 ≡ c →
+          Gives (unaries u (row tk tv)) c s (Node m p k) ks₁ ls₁
+      unary-plain {m} q e = unary-read q (primary-ends tk t c (m .0) (no-prefix t c (sym w ∙ e)))
+
 -- an item of a list, or its end
 module _ (tk tv : List ℕ) (u closing c : ℕ) (l : ActiveList) (items : ℕ) {k : ℕ} {ks ls : List ℕ} {o : Optional}
     (d : Optionally tk closing c o) where
@@ -357,21 +387,13 @@ module _ (tk tv : List ℕ) (u closing c : ℕ) (l : ActiveList) (items : ℕ) {
       rw (active-ends l) at g
 
   module _ (x : o .found ≡ false) where
-    pub item-field :
-        closing ≡ BaseToken.BraceRight → {r : Turn} {ks' ls' : List ℕ} →
-        As turned (fields (ends l, items) u (row tk tv)) c (nodes ks ls k) r ks' ls' →
-        As turned (listItems closing (ends l, items) u (row tk tv)) c (nodes ks ls k) r ks' ls'
-    unfolding listItems listItem fields
-    item-field e f = shows (reads _ (skipped d x tv)) (rw e f)
-
-    module _ (h : closing ≡ BaseToken.BraceRight → ⊥) {r₁ : Parsed} {ks₁ ls₁ : List ℕ}
+    module _ (h : eqb closing BaseToken.BraceRight ≡ false) {r₁ : Parsed} {ks₁ ls₁ : List ℕ}
         (g : Gives (expression columns (row tk tv) u) c (nodes ks ls k) r₁ ks₁ ls₁) where
       pub item-stopped :
           {y : ℕ} {a e p : TokenId} {j : ℕ} → r₁ ≡ Refused y a e p j →
           As turned (listItems closing (ends l, items) u (row tk tv)) c (nodes ks ls k) (Stopped r₁) ks₁ ls₁
       unfolding listItems listItem
-      item-stopped q =
-          rw (ne-eqb _ _ h) (hands-on _ (reads _ (skipped d x tv)) (told g q))
+      item-stopped q = rw h (hands-on _ (reads _ (skipped d x tv)) (told g q))
 
       pub item-read :
           {n : NodeId} {p : TokenId} {j : ℕ} → r₁ ≡ Node n p j → {r : Turn} {ks' ls' : List ℕ} →
@@ -379,8 +401,16 @@ module _ (tk tv : List ℕ) (u closing c : ℕ) (l : ActiveList) (items : ℕ) {
           As turned (listItems closing (ends l, items) u (row tk tv)) c (nodes ks ls k) r ks' ls'
       unfolding listItems listItem ending
       item-read q f =
-          rw (ne-eqb _ _ h)
-          (shows (reads _ (skipped d x tv) then reads _ (came-read plain-parsed g q)) (f .run tv))
+          rw h (shows (reads _ (skipped d x tv) then reads _ (came-read plain-parsed g q)) (f .run tv))
+
+-- a field after which the list may end
+pub field-item :
+    (tk tv : List ℕ) (u c : ℕ) (l : ActiveList) (items : ℕ) {k : ℕ} {ks ls : List ℕ} {o : Optional} →
+    Optionally tk BaseToken.BraceRight c o → o .found ≡ false → {r : Turn} {ks' ls' : List ℕ} →
+    As turned (fields (ends l, items) u (row tk tv)) c (nodes ks ls k) r ks' ls' →
+    As turned (listItems BaseToken.BraceRight (ends l, items) u (row tk tv)) c (nodes ks ls k) r ks' ls'
+unfolding listItems listItem fields
+field-item tk tv u c l items d x f = shows (reads _ (skipped d x tv)) f
 
 -- a field, and what stands after it
 module _ (tk tv : List ℕ) (u c : ℕ) (l : ActiveList) (items : ℕ) {k : ℕ} {ks ls : List ℕ} {o : Consumed}

@@ -4,9 +4,12 @@
 ghost use mathlib.Core.Path.{_≡_};
 ghost use Prim.Native.Nat.{_+_, _≤_};
 ghost use lib.ListN.{length};
+ghost use lib.Dec.{eqb};
+ghost use mathlib.Core.Bool.{false};
 ghost use Rattle.rules.specs.Codes.Limit as Most;
+ghost use Rattle.rules.specs.Codes.BaseToken as Token;
 ghost use Rattle.rules.specs.Columns.{columns};
-ghost use Rattle.rules.specs.Expressions.{expression};
+ghost use Rattle.rules.specs.Expressions.{structural, expression};
 ghost use Rattle.codes.specs.Answer.{As, Gives, Untyped, Sized, parsed, row, nodes};
 ghost use Rattle.nodes.specs.Answer.{Slots, ends, past};
 ghost use Rattle.references.specs.Answer.{stepped};
@@ -29,11 +32,14 @@ use lists::Owner;
 use lists::Turn;
 use lists::closing_of;
 use lists::finish_field;
+use lists::finish_fields;
 use lists::finish_item;
 use lists::finish_list;
 use lists::finish_shorthand;
+use literals::lone_integer;
 use literals::parse_literal;
 use nodes::ActiveList;
+use nodes::push;
 use nodes::start_list;
 use openings::Opening;
 use openings::parse_opening;
@@ -114,7 +120,8 @@ fn finish_unary(
     }
 }
 
-// An expression, one level further in.
+// An expression, one level further in. A number with nothing after it is read here: it is the usual argument, and needs
+// none of the readers below.
 pub fn parse_expression(
     kinds: &[u8],
     types: &[u8],
@@ -135,6 +142,12 @@ pub fn parse_expression(
             cursor,
             count,
         };
+    }
+    if lone_integer(kinds, cursor) {
+        let at = cursor.0;
+        let next = TokenId(at + 1);
+        let kind = ParseNode::UntypedIntegerLiteral;
+        return push(node_kinds, node_loads, next, count, kind, at);
     }
     let left = unused - 1;
     addition(kinds, types, node_kinds, node_loads, cursor, count, left)
@@ -337,6 +350,9 @@ fn unary(
     else {
         return operand;
     };
+    if from.0 == cursor.0 {
+        return operand;
+    }
     finish_unary(
         kinds,
         node_kinds,
@@ -374,6 +390,18 @@ fn primary(
                 used,
                 unused,
                 owner,
+            )
+        }
+        Opening::Fields(inside, used, name) => {
+            rest_of_fields(
+                kinds,
+                types,
+                node_kinds,
+                node_loads,
+                inside,
+                used,
+                unused,
+                name,
             )
         }
         Opening::Reference(after, used, pointer, depth, name) => {
@@ -525,8 +553,8 @@ fn advance(
     push_binary(node_kinds, node_loads, after, used, left, op, cursor, root)
 }
 
-// Arguments, fields or elements, whose opening token is taken. The Rust has a loop for each, in parse_rest_of_arguments,
-// parse_rest_of_structural and parse_primary_expression.
+// Arguments or elements, whose opening token is taken. The Rust has a loop for each, in parse_rest_of_arguments and
+// parse_primary_expression.
 fn rest_of_list(
     kinds: &[u8],
     types: &[u8],
@@ -585,7 +613,7 @@ fn rest_of_list(
     }
 }
 
-// An item with a comma or the closing token after it, or the closing token.
+// An expression with a comma or the closing token after it, or the closing token.
 fn item(
     kinds: &[u8],
     types: &[u8],
@@ -598,7 +626,7 @@ fn item(
     items: u32,
     closing: u8,
 ) -> Turn
-    requires { ⌜ Sized (now kinds) (now types) (now «node_kinds») (now «node_loads») (cursor .0) count × (past list ≤ count) × (items ≤ count) ⌝ }
+    requires { ⌜ Sized (now kinds) (now types) (now «node_kinds») (now «node_loads») (cursor .0) count × (past list ≤ count) × (items ≤ count) × (eqb closing Token.BraceRight ≡ false) ⌝ }
     ensures { λ r. ⌜ As turned (listItems closing (ends list, items) unused (row (now (kinds .entry)) (now (types .entry)))) (cursor .0) (nodes (now («node_kinds» .entry)) (now («node_loads» .entry)) count) r (now («node_kinds» .exit)) (now («node_loads» .exit)) ⌝ }
 {
     let end = consume_optional(kinds, cursor, closing);
@@ -610,19 +638,6 @@ fn item(
             cursor: from,
             count,
         };
-    }
-    if closing == BaseToken::BraceRight {
-        return field(
-            kinds,
-            types,
-            node_kinds,
-            node_loads,
-            cursor,
-            count,
-            unused,
-            list,
-            items,
-        );
     }
     let item = parse_expression(kinds, types, node_kinds, node_loads, cursor, count, unused);
     let Parsed::Node {
@@ -643,6 +658,101 @@ fn item(
         items,
         closing,
         root,
+    )
+}
+
+// The fields of the struct or word at `name`, whose opening brace is taken. Rust: parse_rest_of_structural.
+fn rest_of_fields(
+    kinds: &[u8],
+    types: &[u8],
+    node_kinds: &mut [u8],
+    node_loads: &mut [u32],
+    cursor: TokenId,
+    count: u32,
+    unused: u32,
+    name: TokenId,
+) -> Parsed
+    requires { ⌜ Sized (now kinds) (now types) (now «node_kinds») (now «node_loads») (cursor .0) count ⌝ }
+    ensures { λ r. ⌜ Gives (within (listed (structural (name .0))) unused (row (now (kinds .entry)) (now (types .entry)))) (cursor .0) (nodes (now («node_kinds» .entry)) (now («node_loads» .entry)) count) r (now («node_kinds» .exit)) (now («node_loads» .exit)) ⌝ }
+{
+    let mut list = start_list();
+    let mut items: u32 = 0;
+    let mut place = cursor.0;
+    let mut used = count;
+    loop {
+        let at = TokenId(place);
+        match next_field(
+            kinds,
+            types,
+            node_kinds,
+            node_loads,
+            at,
+            used,
+            unused,
+            list,
+            items,
+        ) {
+            Turn::More {
+                list: longer,
+                items: number,
+                cursor: after,
+                count: more,
+            } => {
+                list = longer;
+                items = number;
+                place = after.0;
+                used = more;
+            }
+            Turn::Last {
+                list: whole,
+                items: number,
+                cursor: after,
+                count: more,
+            } => {
+                return finish_fields(node_kinds, node_loads, after, more, whole, number, name);
+            }
+            Turn::Refused { refusal } => {
+                return refusal;
+            }
+        }
+    }
+}
+
+// A field with a comma or the closing brace after it, or the closing brace.
+fn next_field(
+    kinds: &[u8],
+    types: &[u8],
+    node_kinds: &mut [u8],
+    node_loads: &mut [u32],
+    cursor: TokenId,
+    count: u32,
+    unused: u32,
+    list: ActiveList,
+    items: u32,
+) -> Turn
+    requires { ⌜ Sized (now kinds) (now types) (now «node_kinds») (now «node_loads») (cursor .0) count × (past list ≤ count) × (items ≤ count) ⌝ }
+    ensures { λ r. ⌜ As turned (listItems Token.BraceRight (ends list, items) unused (row (now (kinds .entry)) (now (types .entry)))) (cursor .0) (nodes (now («node_kinds» .entry)) (now («node_loads» .entry)) count) r (now («node_kinds» .exit)) (now («node_loads» .exit)) ⌝ }
+{
+    let end = consume_optional(kinds, cursor, BaseToken::BraceRight);
+    let from = end.cursor;
+    if end.found {
+        return Turn::Last {
+            list,
+            items,
+            cursor: from,
+            count,
+        };
+    }
+    field(
+        kinds,
+        types,
+        node_kinds,
+        node_loads,
+        cursor,
+        count,
+        unused,
+        list,
+        items,
     )
 }
 

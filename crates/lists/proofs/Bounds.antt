@@ -1,17 +1,25 @@
 -- What the readers of lists take for granted holds after their turns.
 use mathlib.Core.Path.{_≡_, _∙_, ap}
 use mathlib.Core.Bool.{Bool, true, false}
+use mathlib.Core.List.{List}
+use mathlib.Core.Option.{Option}
 use Prim.Native.Nat.{ℕ, _+_, _≤_}
 use native.Mathlib.Omega.{arith}
-use Rattle.codes.proofs.Onto.{Onto, split}
+use Rattle.codes.specs.declared.Parsed.{Parsed}
+use Rattle.codes.specs.declared.Parsed.the-variants.{Node}
+use Rattle.codes.specs.declared.NodeId.{NodeId}
+use Rattle.codes.specs.declared.TokenId.{TokenId}
+use Rattle.codes.specs.Answer.{Gives, nodes}
+use Rattle.codes.proofs.Onto.{Onto, split, plain-parsed}
 use Rattle.codes.proofs.Loops.{heldIn, same-held}
-use Rattle.nodes.specs.Answer.{active, past}
-use Rattle.nodes.proofs.Bounds.{item-fits}
-use Rattle.lists.specs.Answer.{Counted}
+use Rattle.nodes.specs.Answer.{Slots, active, past}
+use Rattle.nodes.proofs.Bounds.{slots-after, item-fits}
+use Rattle.lists.specs.Answer.{Counted, linking}
 use Rattle.rules.specs.Codes.{pick}
 use Rattle.rules.specs.Reading.{Row, Outcome, Step, again, done, pure, _>>=_, consume, optional}
-use Rattle.rules.specs.Columns.{Nodes, columns}
+use Rattle.rules.specs.Columns.{Nodes, Ends, columns}
 use Rattle.rules.specs.Expressions.{separator, itemEnd}
+use Rattle.rules.proofs.Forward.{_then_, eased, appends, closes}
 
 separator-keeps :
     (at : Row) (closing : ℕ) (l : Counted) {c : ℕ} {s : Nodes} {b : Step Counted Counted} {c' : ℕ} {s' : Nodes} →
@@ -50,3 +58,13 @@ item-turn at closing l content {b = b} {s' = s'} e h =
     ap (λ (x : Counted). past (active (x .0))) y in
     let v : l .1 + 1 ≡ heldIn b .1 = ap (λ (x : Counted). x .1) y in
     (omega arith, omega arith)
+
+-- after a list's end and the link to it
+pub link-slots :
+    {ns ls : List ℕ} (l : Option Ends) {c k : ℕ} {r : Parsed} {ns' ls' : List ℕ} →
+    Gives (linking l) c (nodes ns ls k) r ns' ls' → {n : NodeId} {p : TokenId} {j : ℕ} → r ≡ Node n p j →
+    Slots ns ls k → Slots ns' ls' j
+unfolding linking
+link-slots l {c = c} g q z =
+    slots-after plain-parsed
+    (closes {n = c} l then λ _ p e. eased {R = λ _ _. Unit {0}} (λ _ _ _. tt) (appends _ _)) (omega arith) g q z .0

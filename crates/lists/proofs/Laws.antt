@@ -10,7 +10,7 @@ use Rattle.codes.specs.declared.Parsed.the-variants.{Node, Refused}
 use Rattle.codes.specs.declared.NodeId.{NodeId}
 use Rattle.codes.specs.declared.TokenId.{TokenId}
 use Rattle.codes.specs.Answer.{As, Gives, Untyped, Quiet, nodes, token, row}
-use Rattle.codes.proofs.Onto.{_then_, stays, reads, answers, shows, picked}
+use Rattle.codes.proofs.Onto.{Onto, _then_, stays, reads, regroup, answers, shows, picked}
 use Rattle.codes.proofs.Onto.{told, held, hands-on, came-read, plain-parsed, Holding}
 use Rattle.tokens.specs.declared.Consumed.{Consumed}
 use Rattle.tokens.specs.declared.Consumed.the-variants.{Next, Wrong}
@@ -23,15 +23,16 @@ use Rattle.nodes.specs.declared.Listed.the-variants.{List as Items, Full}
 use Rattle.nodes.specs.Answer.{ends, active, listed, appendTwo}
 use Rattle.nodes.proofs.Laws.{ends-active, active-ends, holding-listed, came-listed}
 use Rattle.lists.specs.declared.Owner.{Owner as Code}
-use Rattle.lists.specs.declared.Owner.the-variants.{Call, Structural, Elements}
+use Rattle.lists.specs.declared.Owner.the-variants.{Call, Elements}
 use Rattle.lists.specs.declared.Turn.{Turn}
 use Rattle.lists.specs.declared.Turn.the-variants.{More, Last, Refused as NoTurn}
-use Rattle.lists.specs.Answer.{ownerOf, Counted, turnOf, turned, separating, ending, fieldEnd, shorthandEnd}
+use Rattle.lists.specs.Answer.{ownerOf, Counted, turnOf, turned, closingWith, separating, ending, fieldEnd}
+use Rattle.lists.specs.Answer.{shorthandEnd, linking}
 use Rattle.rules.specs.Codes.BaseToken as BaseToken
 use Rattle.rules.specs.Codes.ParseNode as ParseNode
-use Rattle.rules.specs.Reading.{Step, again, done}
+use Rattle.rules.specs.Reading.{Step, again, done, _>>=_}
 use Rattle.rules.specs.Columns.{Nodes, Ends, columns, append, pushListItem, pushEndOfList}
-use Rattle.rules.specs.Expressions.{Owner, separator, itemEnd, nameAlone, owned, listEnd}
+use Rattle.rules.specs.Expressions.{Owner, structural, separator, itemEnd, nameAlone, owned, listEnd}
 
 -- what was read, by the turn
 turn-same :
@@ -65,6 +66,24 @@ holding-turned = record {
   holds = turn-read;
 }
 
+-- the closing token
+module _ (closing : ℕ) (l : ActiveList) (i : ℕ) {tk : List ℕ} {c k : ℕ} {q : Consumed}
+    (d : Quiet consumed (consuming closing) tk c k q) where
+  pub list-closed :
+      {p : TokenId} {j : ℕ} → q ≡ Next p j → Quiet turned (closingWith closing (ends l, i)) tk c k (Last l i p j)
+  unfolding closingWith consuming
+  list-closed {p} {j} w = record {
+    run = λ tv ns ls.
+        let z : As turned (closingWith closing (ends l, i) (row tk tv)) c (nodes ns ls k)
+        (Last (active (ends l)) i p j) ns ls =
+        answers (reads _ (came-read (holding-consumed .plain) (d .run tv ns ls) w)) in
+        rw (active-ends l) at z;
+  }
+
+  pub list-open : {r : Parsed} → q ≡ Wrong r → Quiet turned (closingWith closing (ends l, i)) tk c k (NoTurn r)
+  unfolding closingWith consuming
+  list-open w = record { run = λ tv ns ls. hands-on _ stays (held holding-consumed (d .run tv ns ls) w) }
+
 -- after an item: a comma, or the closing token
 module _ (closing : ℕ) (l : ActiveList) (i : ℕ) {tk : List ℕ} {c k : ℕ} {o : Optional}
     (g : Optionally tk BaseToken.Comma c o) where
@@ -79,24 +98,17 @@ module _ (closing : ℕ) (l : ActiveList) (i : ℕ) {tk : List ℕ} {c k : ℕ} 
         rw (active-ends l) at z;
   }
 
-  module _ (e : o .found ≡ false) {q : Consumed} (d : Quiet consumed (consuming closing) tk c k q) where
-    pub list-closed :
-        {p : TokenId} {j : ℕ} → q ≡ Next p j → Quiet turned (separating closing (ends l, i)) tk c k (Last l i p j)
-    unfolding separating separator consuming
-    list-closed {p} {j} w = record {
-      run = λ tv ns ls.
-          let z : As turned (separating closing (ends l, i) (row tk tv)) c (nodes ns ls k)
-          (Last (active (ends l)) i p j) ns ls =
-          answers (reads _ (skipped g e tv) then reads _ (came-read (holding-consumed .plain) (d .run tv ns ls) w)) in
-          rw (active-ends l) at z;
-    }
+  pub no-comma :
+      o .found ≡ false → {r : Turn} → Quiet turned (closingWith closing (ends l, i)) tk c k r →
+      Quiet turned (separating closing (ends l, i)) tk c k r
+  unfolding separating separator closingWith
+  no-comma e d = record { run = λ tv ns ls. shows (reads _ (skipped g e tv)) (d .run tv ns ls) }
 
-    pub list-open : {r : Parsed} → q ≡ Wrong r → Quiet turned (separating closing (ends l, i)) tk c k (NoTurn r)
-    unfolding separating separator consuming
-    list-open w = record {
-      run = λ tv ns ls.
-          hands-on _ (reads _ (skipped g e tv)) (held holding-consumed (d .run tv ns ls) w);
-    }
+  -- by a kind of the closing token
+  pub no-comma-by :
+      o .found ≡ false → {key : ℕ} → closing ≡ key → {r : Turn} →
+      Quiet turned (closingWith key (ends l, i)) tk c k r → Quiet turned (separating closing (ends l, i)) tk c k r
+  no-comma-by e q d = no-comma e (rw q d)
 
 -- an item
 module _ (closing : ℕ) (l : ActiveList) (i content : ℕ) (tk : List ℕ) {c : ℕ} {s : Nodes} {o : Listed} {ks ls : List ℕ}
@@ -154,38 +166,48 @@ module _ {o : Code} (items list : ℕ) {c : ℕ} {s : Nodes} {r : Parsed} {ks ls
   unfolding owned appendTwo
   call-read e g = rw e g
 
-  pub structural-read :
-      {name : TokenId} → o ≡ Structural name → Gives (append ParseNode.Structural (name .0)) c s r ks ls →
-      Gives (owned columns (ownerOf o) items list) c s r ks ls
-  unfolding owned
-  structural-read e g = rw e g
-
   pub elements-read :
       o ≡ Elements → Gives (append ParseNode.ArrayLiteral items) c s r ks ls →
       Gives (owned columns (ownerOf o) items list) c s r ks ls
   unfolding owned
   elements-read e g = rw e g
 
--- the end of a list
-module _ (o : Owner) (l : Option Ends) (i : ℕ) {c : ℕ} {s : Nodes} {r₁ : Parsed} {ks₁ ls₁ : List ℕ}
+-- the end of a list, and the link to it
+module _ (l : Option Ends) {c : ℕ} {s : Nodes} {r₁ : Parsed} {ks₁ ls₁ : List ℕ}
     (g : Gives (pushEndOfList l) c s r₁ ks₁ ls₁) where
   pub end-refused :
-      {x : ℕ} {a b p : TokenId} {j : ℕ} → r₁ ≡ Refused x a b p j →
-      Gives (listEnd columns o (l, i)) c s r₁ ks₁ ls₁
-  unfolding listEnd
+      {x : ℕ} {a b p : TokenId} {j : ℕ} → r₁ ≡ Refused x a b p j → Gives (linking l) c s r₁ ks₁ ls₁
+  unfolding linking
   end-refused q = hands-on _ stays (told g q)
 
-  module _ {n : NodeId} {p : TokenId} {j : ℕ} (q : r₁ ≡ Node n p j) {r₂ : Parsed} {ks₂ ls₂ : List ℕ}
-      (d : Gives (append ParseNode.List (n .0)) (p .0) (nodes ks₁ ls₁ j) r₂ ks₂ ls₂) where
-    pub link-refused :
-        {x : ℕ} {a b p' : TokenId} {i' : ℕ} → r₂ ≡ Refused x a b p' i' →
-        Gives (listEnd columns o (l, i)) c s r₂ ks₂ ls₂
-    unfolding listEnd
-    link-refused w = hands-on _ (reads _ (came-read plain-parsed g q)) (told d w)
+  pub link-read :
+      {n : NodeId} {p : TokenId} {j : ℕ} → r₁ ≡ Node n p j → {r : Parsed} {ks ls : List ℕ} →
+      Gives (append ParseNode.List (n .0)) (p .0) (nodes ks₁ ls₁ j) r ks ls → Gives (linking l) c s r ks ls
+  unfolding linking
+  link-read q d = shows (reads _ (came-read plain-parsed g q)) d
 
-    pub list-read :
-        {m : NodeId} {p' : TokenId} {j' : ℕ} → r₂ ≡ Node m p' j' → {r : Parsed} {ks ls : List ℕ} →
-        Gives (owned columns o i (m .0)) (p' .0) (nodes ks₂ ls₂ j') r ks ls →
-        Gives (listEnd columns o (l, i)) c s r ks ls
-    unfolding listEnd
-    list-read w f = shows (reads _ (came-read plain-parsed g q) then reads _ (came-read plain-parsed d w)) f
+-- the end of a list, with what it belongs to
+module _ (o : Owner) (l : Option Ends) (i : ℕ) {c : ℕ} {s : Nodes} {r₁ : Parsed} {ks₁ ls₁ : List ℕ}
+    (g : Gives (linking l) c s r₁ ks₁ ls₁) where
+  linked : Onto (listEnd columns o (l, i)) c s (linking l >>= λ n. owned columns o i n) c s
+  unfolding listEnd linking
+  linked = record {
+    same = sym (regroup (pushEndOfList l) (λ t. append ParseNode.List t) (λ n. owned columns o i n) c s .same);
+  }
+
+  pub list-refused :
+      {x : ℕ} {a b p : TokenId} {j : ℕ} → r₁ ≡ Refused x a b p j → Gives (listEnd columns o (l, i)) c s r₁ ks₁ ls₁
+  list-refused q = hands-on _ linked (told g q)
+
+  pub list-read :
+      {n : NodeId} {p : TokenId} {j : ℕ} → r₁ ≡ Node n p j → {r : Parsed} {ks ls : List ℕ} →
+      Gives (owned columns o i (n .0)) (p .0) (nodes ks₁ ls₁ j) r ks ls → Gives (listEnd columns o (l, i)) c s r ks ls
+  list-read q d = shows (linked then reads _ (came-read plain-parsed g q)) d
+
+pub fields-read :
+    (name : ℕ) (l : Option Ends) (i : ℕ) {c : ℕ} {s : Nodes} {r₁ : Parsed} {ks₁ ls₁ : List ℕ} →
+    Gives (linking l) c s r₁ ks₁ ls₁ → {n : NodeId} {p : TokenId} {j : ℕ} → r₁ ≡ Node n p j →
+    {r : Parsed} {ks ls : List ℕ} → Gives (append ParseNode.Structural name) (p .0) (nodes ks₁ ls₁ j) r ks ls →
+    Gives (listEnd columns (structural name) (l, i)) c s r ks ls
+unfolding owned
+fields-read name l i g q d = list-read (structural name) l i g q d

@@ -4,19 +4,18 @@ use mathlib.Core.Option.{Option}
 use Rattle.codes.specs.Answer.{Form, token}
 use Rattle.nodes.specs.Answer.{active}
 use Rattle.lists.specs.declared.Owner.{Owner as Code}
-use Rattle.lists.specs.declared.Owner.the-variants.{Call, Structural, Elements}
+use Rattle.lists.specs.declared.Owner.the-variants.{Call, Elements}
 use Rattle.lists.specs.declared.Turn.{Turn}
 use Rattle.lists.specs.declared.Turn.the-variants.{More, Last, Refused}
 use Rattle.rules.specs.Codes.BaseToken as BaseToken
 use Rattle.rules.specs.Codes.ParseNode as ParseNode
-use Rattle.rules.specs.Reading.{Rule, Row, Step, again, done, _>>=_}
-use Rattle.rules.specs.Columns.{Nodes, Ends, columns, append}
-use Rattle.rules.specs.Expressions.{Owner, call, structural, elements, separator, itemEnd, nameAlone}
+use Rattle.rules.specs.Reading.{Rule, Row, Step, again, done, _>>=_, pure, consume}
+use Rattle.rules.specs.Columns.{Nodes, Ends, columns, append, pushEndOfList}
+use Rattle.rules.specs.Expressions.{Owner, call, elements, separator, itemEnd, nameAlone}
 
--- what a list belongs to
+-- what a list of expressions belongs to
 abbrev pub ownerOf : Code → Owner
 ownerOf (Call name builtin) = call (name .0) builtin
-ownerOf (Structural name) = structural (name .0)
 ownerOf Elements = elements
 
 -- an open list's first and last item, and the number of its items
@@ -32,6 +31,11 @@ abbrev pub turned : Form (Step Counted Counted) Turn
 turned = record { read = turnOf; refused = Refused }
 
 -- the rules of any row
+unfoldable pub closingWith : ℕ → Counted → Row → Rule Nodes (Step Counted Counted)
+closingWith closing l row = do
+  _ ← consume row closing
+  pure (done l)
+
 unfoldable pub separating : ℕ → Counted → Row → Rule Nodes (Step Counted Counted)
 separating closing l row = separator columns row closing l
 
@@ -49,3 +53,9 @@ unfoldable pub shorthandEnd : Counted → ℕ → Row → Rule Nodes (Step Count
 shorthandEnd l name row = do
   e ← nameAlone columns name
   fieldEnd l name e row
+
+-- the end of a list, and the link to it
+unfoldable pub linking : Option Ends → Rule Nodes ℕ
+linking l = do
+  t ← pushEndOfList l
+  append ParseNode.List t

@@ -3,10 +3,10 @@ ghost use mathlib.Core.Path.{_≡_};
 ghost use Prim.Native.Nat.{_+_, _≤_};
 ghost use Rattle.rules.specs.Codes.Limit as Most;
 ghost use Rattle.rules.specs.Columns.{columns};
-ghost use Rattle.rules.specs.Expressions.{closingOf, owned, listEnd};
+ghost use Rattle.rules.specs.Expressions.{structural, closingOf, owned, listEnd};
 ghost use Rattle.codes.specs.Answer.{Gives, Untyped, Quiet, nodes};
 ghost use Rattle.nodes.specs.Answer.{Slots, ends, past};
-ghost use Rattle.lists.specs.Answer.{ownerOf, turned, separating, ending, fieldEnd, shorthandEnd};
+ghost use Rattle.lists.specs.Answer.{ownerOf, turned, closingWith, separating, ending, fieldEnd, shorthandEnd, linking};
 use codes::BaseToken;
 use codes::NodeId;
 use codes::ParseNode;
@@ -24,10 +24,9 @@ use tokens::Consumed;
 use tokens::consume;
 use tokens::consume_optional;
 
-// What a list belongs to: a call of a name or of a Builtin, a struct or word by its name, or an array.
+// What a list of expressions belongs to: a call of a name or of a Builtin, or an array.
 pub enum Owner {
     Call { name: TokenId, builtin: u32 },
-    Structural { name: TokenId },
     Elements,
 }
 
@@ -50,7 +49,7 @@ pub enum Turn {
     },
 }
 
-// The token that closes a list.
+// The token that closes a list of expressions.
 pub fn closing_of(owner: Owner) -> u8
     ensures { λ r. ⌜ r ≡ closingOf (ownerOf owner) ⌝ }
 {
@@ -59,12 +58,38 @@ pub fn closing_of(owner: Owner) -> u8
             name: _,
             builtin: _,
         } => BaseToken::ParenRight,
-        Owner::Structural { name: _ } => BaseToken::BraceRight,
         Owner::Elements => BaseToken::BracketRight,
     }
 }
 
-// After an item: a comma, or the closing token.
+// The token that closes the list.
+fn close_list(
+    kinds: &[u8],
+    cursor: TokenId,
+    count: u32,
+    list: ActiveList,
+    items: u32,
+    closing: u8,
+) -> Turn
+    requires { ⌜ cursor .0 ≤ Most.Tokens + 1 ⌝ }
+    ensures { λ r. ⌜ Quiet turned (closingWith closing (ends list, items)) (now (kinds .entry)) (cursor .0) count r ⌝ }
+{
+    match consume(kinds, cursor, count, closing) {
+        Consumed::Next {
+            cursor: end,
+            count: used,
+        } => Turn::Last {
+            list,
+            items,
+            cursor: end,
+            count: used,
+        },
+        Consumed::Wrong { refusal } => Turn::Refused { refusal },
+    }
+}
+
+// After an item: a comma, or the closing token. Two kinds of that are written out, so that the refusal of each is known
+// when this is compiled, and not looked up.
 fn parse_separator(
     kinds: &[u8],
     cursor: TokenId,
@@ -86,17 +111,14 @@ fn parse_separator(
             count,
         };
     }
-    match consume(kinds, cursor, count, closing) {
-        Consumed::Next {
-            cursor: end,
-            count: used,
-        } => Turn::Last {
-            list,
-            items,
-            cursor: end,
-            count: used,
-        },
-        Consumed::Wrong { refusal } => Turn::Refused { refusal },
+    match closing {
+        BaseToken::ParenRight => {
+            close_list(kinds, cursor, count, list, items, BaseToken::ParenRight)
+        }
+        BaseToken::BracketRight => {
+            close_list(kinds, cursor, count, list, items, BaseToken::BracketRight)
+        }
+        _ => close_list(kinds, cursor, count, list, items, closing),
     }
 }
 
@@ -200,7 +222,7 @@ pub fn finish_shorthand(
     )
 }
 
-// The nodes of what a list belongs to, after the link to it.
+// The nodes of what a list of expressions belongs to, after the link to it.
 fn push_owner(
     node_kinds: &mut [u8],
     node_loads: &mut [u32],
@@ -226,16 +248,6 @@ fn push_owner(
                 builtin,
             )
         }
-        Owner::Structural { name } => {
-            push(
-                node_kinds,
-                node_loads,
-                cursor,
-                count,
-                ParseNode::Structural,
-                name.0,
-            )
-        }
         Owner::Elements => {
             push(
                 node_kinds,
@@ -249,7 +261,30 @@ fn push_owner(
     }
 }
 
-// The end of a list, and the nodes of what it belongs to.
+// The end of a list, and the link to it.
+fn link_list(
+    node_kinds: &mut [u8],
+    node_loads: &mut [u32],
+    cursor: TokenId,
+    count: u32,
+    list: ActiveList,
+) -> Parsed
+    requires { ⌜ Slots (now «node_kinds») (now «node_loads») count × (past list ≤ count) ⌝ }
+    ensures { λ r. ⌜ Gives (linking (ends list)) (cursor .0) (nodes (now («node_kinds» .entry)) (now («node_loads» .entry)) count) r (now («node_kinds» .exit)) (now («node_loads» .exit)) ⌝ }
+{
+    let ended = push_end_of_list(node_kinds, node_loads, cursor, count, list);
+    let Parsed::Node {
+        root: first,
+        cursor: end,
+        count: used,
+    } = ended
+    else {
+        return ended;
+    };
+    push_list(node_kinds, node_loads, end, used, first)
+}
+
+// The end of a list of expressions, and the nodes of what it belongs to.
 pub fn finish_list(
     node_kinds: &mut [u8],
     node_loads: &mut [u32],
@@ -262,23 +297,40 @@ pub fn finish_list(
     requires { ⌜ Slots (now «node_kinds») (now «node_loads») count × (past list ≤ count) ⌝ }
     ensures { λ r. ⌜ Gives (listEnd columns (ownerOf owner) (ends list, items)) (cursor .0) (nodes (now («node_kinds» .entry)) (now («node_loads» .entry)) count) r (now («node_kinds» .exit)) (now («node_loads» .exit)) ⌝ }
 {
-    let ended = push_end_of_list(node_kinds, node_loads, cursor, count, list);
-    let Parsed::Node {
-        root: first,
-        cursor: end,
-        count: used,
-    } = ended
-    else {
-        return ended;
-    };
-    let linked = push_list(node_kinds, node_loads, end, used, first);
+    let linked = link_list(node_kinds, node_loads, cursor, count, list);
     let Parsed::Node {
         root: link,
         cursor: after,
-        count: more,
+        count: used,
     } = linked
     else {
         return linked;
     };
-    push_owner(node_kinds, node_loads, after, more, owner, items, link)
+    push_owner(node_kinds, node_loads, after, used, owner, items, link)
+}
+
+// The end of the fields of the struct or word at `name`, and its node.
+pub fn finish_fields(
+    node_kinds: &mut [u8],
+    node_loads: &mut [u32],
+    cursor: TokenId,
+    count: u32,
+    list: ActiveList,
+    items: u32,
+    name: TokenId,
+) -> Parsed
+    requires { ⌜ Slots (now «node_kinds») (now «node_loads») count × (past list ≤ count) ⌝ }
+    ensures { λ r. ⌜ Gives (listEnd columns (structural (name .0)) (ends list, items)) (cursor .0) (nodes (now («node_kinds» .entry)) (now («node_loads» .entry)) count) r (now («node_kinds» .exit)) (now («node_loads» .exit)) ⌝ }
+{
+    let linked = link_list(node_kinds, node_loads, cursor, count, list);
+    let Parsed::Node {
+        root: _,
+        cursor: after,
+        count: used,
+    } = linked
+    else {
+        return linked;
+    };
+    let kind = ParseNode::Structural;
+    push(node_kinds, node_loads, after, used, kind, name.0)
 }

@@ -101,7 +101,7 @@ pub data Plainly : ℕ → ℕ → Type 0 where
 
 -- a literal, by its token
 module _ (tk tv : List ℕ) (t c : ℕ) {s : Nodes} where
-  plainly :
+  pub plainly :
       {key kind : ℕ} → Plainly key kind → t ≡ kindIn tk c → t ≡ key → (expr : Rule Nodes ℕ) →
       Onto (primary columns (row tk tv) expr) c s (append kind c) (c + 1) s
   unfolding primary choose

@@ -1,5 +1,6 @@
 -- The answers of the code as the rules give them.
-use Prim.Native.Nat.{ℕ}
+use Prim.Native.Nat.{ℕ, _+_}
+use mathlib.Core.Bool.{Bool, true}
 use mathlib.Core.List.{List}
 use mathlib.Core.Path.{_≡_}
 use Rattle.codes.specs.declared.Parsed.{Parsed}
@@ -7,9 +8,10 @@ use Rattle.codes.specs.declared.TokenId.{TokenId}
 use Rattle.codes.specs.Answer.{Gives, row}
 use Rattle.tokens.specs.Answer.{kindIn}
 use Rattle.rules.specs.Codes.BaseToken as BaseToken
+use Rattle.rules.specs.Codes.ParseNode as ParseNode
 use Rattle.rules.specs.Reading.{Rule, Row, ok, loop}
-use Rattle.rules.specs.Columns.{Nodes, columns}
-use Rattle.rules.specs.Expressions.{string, strings, typedInteger, primary}
+use Rattle.rules.specs.Columns.{Nodes, append, columns}
+use Rattle.rules.specs.Expressions.{string, strings, typedInteger, primary, sum}
 
 -- the strings after the first one, whose token is at, of any row
 unfoldable pub joining : ℕ → Row → Rule Nodes ℕ
@@ -38,3 +40,21 @@ pub record Literal (kinds types : List ℕ) (t c : ℕ) (s : Nodes) (r : Parsed)
       t ≡ kindIn kinds c → (t ≡ BaseToken.Ampersand → ⊥) → (t ≡ BaseToken.Identifier → ⊥) →
       (t ≡ BaseToken.Builtin → ⊥) → (t ≡ BaseToken.BracketLeft → ⊥) → (t ≡ BaseToken.ParenLeft → ⊥) →
       (expr : Rule Nodes ℕ) → Gives (primary columns (row kinds types) expr) c s r ks ls
+
+-- the tokens with which no expression goes on
+pub data Ender : ℕ → Type 0 where
+  parenthesis : Ender BaseToken.ParenRight
+  brace : Ender BaseToken.BraceRight
+  bracket : Ender BaseToken.BracketRight
+  semicolon : Ender BaseToken.Semicolon
+  comma : Ender BaseToken.Comma
+
+pub record Ends (t : ℕ) (r : Bool) : Type 0 where
+  pub ender : r ≡ true → Ender t
+
+-- If so, the sum that begins at the cursor is the node of an integer, whatever the value types, the rules for what may
+-- be inside of it and the nodes are.
+pub record Lone (kinds : List ℕ) (c : ℕ) (r : Bool) : Type 0 where
+  pub whole :
+      r ≡ true → (types : List ℕ) (expr ty : Rule Nodes ℕ) (s : Nodes) →
+      sum columns (row kinds types) expr ty c s ≡ append ParseNode.UntypedIntegerLiteral c (c + 1) s

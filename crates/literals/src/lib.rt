@@ -4,7 +4,7 @@ ghost use lib.ListN.{length};
 ghost use Rattle.rules.specs.Codes.Limit as Most;
 ghost use Rattle.codes.specs.Answer.{Untyped, Sized, parsed, nodes};
 ghost use Rattle.nodes.specs.Answer.{Slots};
-ghost use Rattle.literals.specs.Answer.{Ending, Unkinded, Literal, joining, suffixed};
+ghost use Rattle.literals.specs.Answer.{Ending, Unkinded, Literal, Ends, Lone, joining, suffixed};
 use codes::BaseToken;
 use codes::ParseNode;
 use codes::Parsed;
@@ -138,5 +138,32 @@ pub fn parse_literal(
             cursor: next,
             count,
         },
+    }
+}
+
+// Whether no expression goes on with this token.
+fn ends_expression(token: u8) -> bool
+    ensures { λ r. ⌜ Ends token r ⌝ }
+{
+    match token {
+        BaseToken::ParenRight => true,
+        BaseToken::BraceRight => true,
+        BaseToken::BracketRight => true,
+        BaseToken::Semicolon => true,
+        BaseToken::Comma => true,
+        _ => false,
+    }
+}
+
+// Whether the expression that begins here is nothing but an integer without a type.
+pub fn lone_integer(kinds: &[u8], cursor: TokenId) -> bool
+    requires { ⌜ cursor .0 ≤ Most.Tokens ⌝ }
+    ensures { λ r. ⌜ Lone (now (kinds .entry)) (cursor .0) r ⌝ }
+{
+    let next = TokenId(cursor.0 + 1);
+    match peek(kinds, cursor) {
+        BaseToken::NakedDecimal => ends_expression(peek(kinds, next)),
+        BaseToken::BitInteger => ends_expression(peek(kinds, next)),
+        _ => false,
     }
 }

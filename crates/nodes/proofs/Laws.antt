@@ -1,10 +1,12 @@
 -- How the answers over lists follow from those of an append.
 use mathlib.Core.Path.{_≡_, refl, sym, _∙_, ap}
+use mathlib.Core.Bool.{Bool, true, false}
 use mathlib.Core.List.{List}
 use mathlib.Core.Option.{Option, some, none}
 use Prim.Native.Nat.{ℕ, _+_, _≤_, _<_}
 use native.Mathlib.Omega.{arith}
 use lib.ListN.{length, set}
+use lib.Dec.{ltb}
 use borrow.Author.Tests.{lt-ltb, le-ltb}
 use Rattle.codes.specs.declared.Parsed.{Parsed}
 use Rattle.codes.specs.declared.Parsed.the-variants.{Node, Refused}
@@ -34,6 +36,19 @@ module _ (k l c : ℕ) (ks ls : List ℕ) (n : ℕ) where
   pub full : length ks ≤ n → Gives (append k l) c (nodes ks ls n) (refusal Refusal.NoSlot c c c n) ks ls
   unfolding append
   full h = declines (record { same = rw (le-ltb _ _ h) refl })
+
+-- an append, and what then reads its node and does nothing more
+pub append-only :
+    (kind load : ℕ) {c : ℕ} {s : Nodes} (f : ℕ → Rule Nodes ℕ) → ((n : ℕ) (t : Nodes) → Onto (f n) c t (pure n) c t) →
+    Onto (append kind load >>= f) c s (append kind load) c s
+unfolding append _>>=_
+append-only kind load {c} {s} f h = go (ltb (s .count) (length (s .kinds))) refl
+  where
+    go :
+        (b : Bool) → ltb (s .count) (length (s .kinds)) ≡ b →
+        Onto (append kind load >>= f) c s (append kind load) c s
+    go true e = record { same = rw e (h _ _ .same) }
+    go false e = record { same = rw e refl }
 
 -- two nodes
 module _ (kind load kind' load' : ℕ) {c : ℕ} {s : Nodes} {r₁ : Parsed} {ks₁ ls₁ : List ℕ}

@@ -21,9 +21,10 @@ use Rattle.references.specs.declared.Address.{Address}
 use Rattle.references.specs.declared.Address.the-variants.{Name as At, Refused as NoName}
 use Rattle.references.specs.Answer.{addressed, addressing}
 use Rattle.references.proofs.Laws.{holding-addressed}
-use Rattle.lists.specs.declared.Owner.the-variants.{Call, Structural, Elements}
+use Rattle.lists.specs.declared.Owner.the-variants.{Call, Elements}
 use Rattle.openings.specs.declared.Opening.{Opening}
-use Rattle.openings.specs.declared.Opening.the-variants.{List as Items, Reference, Name, Group, Literal, Refused}
+use Rattle.openings.specs.declared.Opening.the-variants.{List as Items, Fields, Reference, Name, Group, Literal}
+use Rattle.openings.specs.declared.Opening.the-variants.{Refused}
 use Rattle.openings.specs.Answer.{Holds, Onward, Opens, Starts, listed, referred, alone, grouped}
 use Rattle.openings.specs.Answer.{naming, calling, pointing, primaryOr}
 use Rattle.rules.specs.Codes.BaseToken as BaseToken
@@ -56,7 +57,7 @@ module _ (tk : List ℕ) (name : TokenId) (c t k : ℕ) (peeked : t ≡ kindIn t
   }
 
   pub fields-open :
-      t ≡ BaseToken.BraceLeft → Opens (naming (name .0)) tk (name .0) c k (Items (token (c + 1)) k (Structural name))
+      t ≡ BaseToken.BraceLeft → Opens (naming (name .0)) tk (name .0) c k (Fields (token (c + 1)) k name)
   unfolding Opens naming listed named
   fields-open e = record {
     same = λ tv expr ks ls.
@@ -192,6 +193,7 @@ module _ (tk : List ℕ) (c t k : ℕ) (peeked : t ≡ kindIn tk c) where
       Starts false tk c k r
   unfolding Starts Opens primaryOr
   opened b e (Items p j owner) h = onward b e h
+  opened b e (Fields p j name) h = onward b e h
   opened b e (Reference p j isPointer depth name) h = onward b e h
   opened b e (Name p j) h = onward b e h
   opened b e (Group p j) h = onward b e h
@@ -234,6 +236,7 @@ module _ (tk : List ℕ) (c t k : ℕ) (peeked : t ≡ kindIn tk c) where
 piped-opens : (tk : List ℕ) (c k : ℕ) (r : Opening) → Opens (primaryOr true) tk c c k r → Starts true tk c k r
 unfolding Starts Opens
 piped-opens tk c k (Items p j owner) h = h
+piped-opens tk c k (Fields p j name) h = h
 piped-opens tk c k (Reference p j isPointer depth name) h = h
 piped-opens tk c k (Name p j) h = h
 piped-opens tk c k (Group p j) h = h

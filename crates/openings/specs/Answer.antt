@@ -7,12 +7,13 @@ use Rattle.codes.specs.Answer.{Gives, Sized, nodes, row}
 use Rattle.tokens.specs.Answer.{kindIn}
 use Rattle.lists.specs.Answer.{ownerOf}
 use Rattle.openings.specs.declared.Opening.{Opening}
-use Rattle.openings.specs.declared.Opening.the-variants.{List as Items, Reference, Name, Group, Literal, Refused}
+use Rattle.openings.specs.declared.Opening.the-variants.{List as Items, Fields, Reference, Name, Group, Literal}
+use Rattle.openings.specs.declared.Opening.the-variants.{Refused}
 use Rattle.rules.specs.Codes.{pick}
 use Rattle.rules.specs.Codes.BaseToken as BaseToken
 use Rattle.rules.specs.Reading.{Rule, Row, _>>=_}
 use Rattle.rules.specs.Columns.{Nodes, columns}
-use Rattle.rules.specs.Expressions.{Owner, items, stepped, advanced, nameAlone, parenthesized, named, builtin, pointer}
+use Rattle.rules.specs.Expressions.{Owner, structural, items, stepped, advanced, nameAlone, parenthesized, named, builtin, pointer}
 use Rattle.rules.specs.Expressions.{reference, primary}
 
 -- a rule that holds expressions, for every row and every rule for an expression in it
@@ -68,6 +69,7 @@ pub record Plain (kinds : List ℕ) (c t : ℕ) : Type 0 where
 -- How the rule m, which begins at start, goes on after its first tokens, or is refused.
 unfoldable pub Opens : Holds → List ℕ → ℕ → ℕ → ℕ → Opening → Type 0
 Opens m kinds start c count (Items p j owner) = Onward m kinds c count (listed (ownerOf owner)) (p .0) j
+Opens m kinds start c count (Fields p j name) = Onward m kinds c count (listed (structural (name .0))) (p .0) j
 Opens m kinds start c count (Reference p j isPointer depth name) =
     Onward m kinds c count (referred start depth (name .0) isPointer) (p .0) j
 Opens m kinds start c count (Name p j) = Onward m kinds c count (alone start) (p .0) j
@@ -81,6 +83,7 @@ Opens m kinds start c count (Refused r) =
 unfoldable pub Starts : Bool → List ℕ → ℕ → ℕ → Opening → Type 0
 Starts piped kinds c count (Literal t) = Plain kinds c t × (piped ≡ false)
 Starts piped kinds c count (Items p j owner) = Opens (primaryOr piped) kinds c c count (Items p j owner)
+Starts piped kinds c count (Fields p j name) = Opens (primaryOr piped) kinds c c count (Fields p j name)
 Starts piped kinds c count (Reference p j isPointer depth name) =
     Opens (primaryOr piped) kinds c c count (Reference p j isPointer depth name)
 Starts piped kinds c count (Name p j) = Opens (primaryOr piped) kinds c c count (Name p j)

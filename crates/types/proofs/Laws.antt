@@ -21,6 +21,7 @@ use Rattle.tokens.specs.declared.Consumed.the-variants.{Next, Wrong}
 use Rattle.tokens.specs.Answer.{kindIn, consumed, consuming}
 use Rattle.tokens.proofs.Laws.{holding-consumed}
 use Rattle.tokens.proofs.Bounds.{in-row, past-token}
+use Rattle.nodes.proofs.Laws.{append-only}
 use Rattle.types.specs.declared.Short.{Short}
 use Rattle.types.specs.declared.Start.{Start}
 use Rattle.types.specs.declared.Start.the-variants.{Leaf, Around, NoType}
@@ -212,21 +213,12 @@ pub not-short : (tk tv : List ℕ) (c kind load : ℕ) → Shorts tk tv c (recor
 not-short tk tv c kind load = record { starts = λ e. absurd (true≢false (sym e)) }
 
 -- Such a type is its node: after one token there is no span.
-module _ (tk tv : List ℕ) (u c : ℕ) {s : Nodes} where
-  no-span :
-      (kind load : ℕ) (f : ℕ → ℕ → Rule Nodes ℕ) →
-      Onto (append kind load >>= λ t. here >>= λ end. pick (ltb (c + 1) end) (f t end) (pure t)) (c + 1) s
-      (append kind load) (c + 1) s
-  unfolding append _>>=_ here
-  no-span kind load f = go (ltb (s .count) (length (s .kinds))) refl
-    where
-      go :
-          (b : Bool) → ltb (s .count) (length (s .kinds)) ≡ b →
-          Onto (append kind load >>= λ t. here >>= λ end. pick (ltb (c + 1) end) (f t end) (pure t)) (c + 1) s
-          (append kind load) (c + 1) s
-      go true e = record { same = rw (e, le-ltb (c + 1) (c + 1) (omega arith)) refl }
-      go false e = record { same = rw e refl }
+no-span :
+    (c : ℕ) (f : ℕ → ℕ → Rule Nodes ℕ) (n : ℕ) (t : Nodes) →
+    Onto (here >>= λ end. pick (ltb (c + 1) end) (f n end) (pure n)) (c + 1) t (pure n) (c + 1) t
+no-span c f n t = at-here _ then picked _ _ false (le-ltb (c + 1) (c + 1) (omega arith))
 
+module _ (tk tv : List ℕ) (u c : ℕ) {s : Nodes} where
   pub short-type :
       {x : Short} → Shorts tk tv c x → x .found ≡ true → 0 < u →
       Onto (type columns (row tk tv) u) c s (append (x .kind) (x .load)) (c + 1) s
@@ -237,7 +229,7 @@ module _ (tk tv : List ℕ) (u c : ℕ) {s : Nodes} where
       first _
       (rw (deeper (row tk tv) u left)
       (record { same = leaf-on (f .starts e (s .count)) refl .same _ (s .kinds) (s .loads) }))
-      then no-span _ _ _
+      then append-only _ _ _ (no-span c _)
 
 pub short-read :
     (tk tv : List ℕ) (u c : ℕ) {s : Nodes} {r : Parsed} {ks ls : List ℕ} {x : Short} → Shorts tk tv c x →

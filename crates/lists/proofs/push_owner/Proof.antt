@@ -1,4 +1,4 @@
-use Rattle.lists.proofs.Laws.{call-read, structural-read, elements-read}
+use Rattle.lists.proofs.Laws.{call-read, elements-read}
 use borrow.Author.Needs.{needs}
 use Rattle.lists.proofs.push_owner.Statement.{statement}
 use Rattle.lists.proofs.push_owner.Tie as tie
@@ -7,10 +7,7 @@ returns : tie.Need-returns
 returns c = search (needs, call-read)
 
 returns-2 : tie.Need-returns-2
-returns-2 c = search (needs, structural-read)
-
-returns-3 : tie.Need-returns-3
-returns-3 c = search (needs, elements-read)
+returns-2 c = search (needs, elements-read)
 
 pub push-owner-spec : {M : Type 1} → statement M
 push-owner-spec =
@@ -21,13 +18,8 @@ push-owner-spec =
     (λ c. search needs)
     (λ c κs. search needs)
     (λ c. search needs)
-    (λ c κs. search needs)
-    (λ c. search needs)
     (λ c. search needs)
     returns
     (λ c. search needs)
     (λ c. search needs)
-    returns-2
-    (λ c. search needs)
-    (λ c. search needs)
-    returns-3)
+    returns-2)

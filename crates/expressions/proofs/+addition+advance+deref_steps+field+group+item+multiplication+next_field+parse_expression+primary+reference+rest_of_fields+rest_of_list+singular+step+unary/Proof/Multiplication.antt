@@ -10,8 +10,8 @@ use Rattle.expressions.proofs.Operands.{Factors, first-factor, product-
 use Rattle.expressions.proofs.Operands.{product-read, product-sized, product-less, next-factor}
 use Rattle.expressions.proofs.multiplication.Reads as multiplication
 use Rattle.expressions.proofs.singular.Reads as singular
-use Rattle.expressions.proofs.+addition+advance+deref_steps+field+group+item+multiplication+parse_expression+primary+reference+rest_of_list+singular+step+unary.Lts-multiplication as multiplication-lts
-use Rattle.expressions.proofs.+addition+advance+deref_steps+field+group+item+multiplication+parse_expression+primary+reference+rest_of_list+singular+step+unary.Proof.Shared.{multiplication-at, singular-below}
+use Rattle.expressions.proofs.+addition+advance+deref_steps+field+group+item+multiplication+next_field+parse_expression+primary+reference+rest_of_fields+rest_of_list+singular+step+unary.Lts-multiplication as multiplication-lts
+use Rattle.expressions.proofs.+addition+advance+deref_steps+field+group+item+multiplication+next_field+parse_expression+primary+reference+rest_of_fields+rest_of_list+singular+step+unary.Proof.Shared.{multiplication-at, singular-below}
 
 abbrev calls : ℕ → multiplication-lts.Claims
 calls t = (

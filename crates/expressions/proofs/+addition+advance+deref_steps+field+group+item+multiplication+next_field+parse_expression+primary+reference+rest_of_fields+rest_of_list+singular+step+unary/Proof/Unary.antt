@@ -3,13 +3,13 @@ use borrow.Author.Needs.{needs}
 use Rattle.casts.proofs.parse_size_of.Reads as parse-size-of-reads
 use Rattle.tokens.proofs.peek.Reads as peek-reads
 use Rattle.expressions.proofs.Bounds.{size-inside, operand-sized, past-operand, operand-slots}
-use Rattle.expressions.proofs.Laws.{size-read, unary-stopped, unary-read}
+use Rattle.expressions.proofs.Laws.{size-read, unary-stopped, unary-plain, unary-read}
 use Rattle.expressions.proofs.primary.Reads as primary
 use Rattle.expressions.proofs.unary.Reads as unary
 use Rattle.expressions.proofs.after_prefix.Reads as after-prefix-reads
 use Rattle.expressions.proofs.finish_unary.Reads as finish-unary-reads
-use Rattle.expressions.proofs.+addition+advance+deref_steps+field+group+item+multiplication+parse_expression+primary+reference+rest_of_list+singular+step+unary.Lts-unary as unary-lts
-use Rattle.expressions.proofs.+addition+advance+deref_steps+field+group+item+multiplication+parse_expression+primary+reference+rest_of_list+singular+step+unary.Proof.Shared.{primary-below, unary-at}
+use Rattle.expressions.proofs.+addition+advance+deref_steps+field+group+item+multiplication+next_field+parse_expression+primary+reference+rest_of_fields+rest_of_list+singular+step+unary.Lts-unary as unary-lts
+use Rattle.expressions.proofs.+addition+advance+deref_steps+field+group+item+multiplication+next_field+parse_expression+primary+reference+rest_of_fields+rest_of_list+singular+step+unary.Proof.Shared.{primary-below, unary-at}
 
 abbrev calls : ℕ → unary-lts.Claims
 calls t = (
@@ -38,11 +38,14 @@ primary-requires t c κs = (search needs, search (needs, operand-sized))
 returns-2 : (t : ℕ) → unary-lts.Need-returns-2 (calls t) (unary-at t) unary.Post
 returns-2 t c = search (needs, unary-stopped)
 
+returns-3 : (t : ℕ) → unary-lts.Need-returns-3 (calls t) (unary-at t) unary.Post
+returns-3 t c = search (needs, unary-plain)
+
 finish-unary-requires : (t : ℕ) → unary-lts.Need-finish-unary-requires (calls t) (unary-at t) unary.Post
 finish-unary-requires t c κs = (search (needs, past-operand), search (needs, operand-slots))
 
-returns-3 : (t : ℕ) → unary-lts.Need-returns-3 (calls t) (unary-at t) unary.Post
-returns-3 t c = search (needs, unary-read)
+returns-4 : (t : ℕ) → unary-lts.Need-returns-4 (calls t) (unary-at t) unary.Post
+returns-4 t c = search (needs, unary-read)
 
 pub spec : {M : Type 1} (t : ℕ) → unary-lts.Closed (calls t) (unary-at t) unary.Post M
 spec t =
@@ -59,7 +62,10 @@ spec t =
     (λ c. search needs)
     (λ c. search needs)
     (returns-2 t)
-    (finish-unary-requires t)
     (λ c. search needs)
     (λ c. search needs)
     (returns-3 t)
+    (finish-unary-requires t)
+    (λ c. search needs)
+    (λ c. search needs)
+    (returns-4 t)

@@ -13,8 +13,8 @@ use Rattle.expressions.proofs.Steps.{Steps, first-step, more-sized, mor
 use Rattle.expressions.proofs.Steps.{steps-exceeded, steps-refused, steps-read, next-step}
 use Rattle.expressions.proofs.deref_steps.Reads as deref-steps
 use Rattle.expressions.proofs.step.Reads as step
-use Rattle.expressions.proofs.+addition+advance+deref_steps+field+group+item+multiplication+parse_expression+primary+reference+rest_of_list+singular+step+unary.Lts-deref_steps as deref-steps-lts
-use Rattle.expressions.proofs.+addition+advance+deref_steps+field+group+item+multiplication+parse_expression+primary+reference+rest_of_list+singular+step+unary.Proof.Shared.{deref-steps-at, step-below}
+use Rattle.expressions.proofs.+addition+advance+deref_steps+field+group+item+multiplication+next_field+parse_expression+primary+reference+rest_of_fields+rest_of_list+singular+step+unary.Lts-deref_steps as deref-steps-lts
+use Rattle.expressions.proofs.+addition+advance+deref_steps+field+group+item+multiplication+next_field+parse_expression+primary+reference+rest_of_fields+rest_of_list+singular+step+unary.Proof.Shared.{deref-steps-at, step-below}
 
 abbrev calls : ℕ → deref-steps-lts.Claims
 calls t = (

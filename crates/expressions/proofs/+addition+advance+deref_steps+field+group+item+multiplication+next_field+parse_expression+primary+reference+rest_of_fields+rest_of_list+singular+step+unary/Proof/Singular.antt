@@ -6,8 +6,8 @@ use Rattle.expressions.proofs.Bounds.{after-cast-unary, past-cast}
 use Rattle.expressions.proofs.Laws.{singular-stopped, singular-bare, singular-read}
 use Rattle.expressions.proofs.singular.Reads as singular
 use Rattle.expressions.proofs.unary.Reads as unary
-use Rattle.expressions.proofs.+addition+advance+deref_steps+field+group+item+multiplication+parse_expression+primary+reference+rest_of_list+singular+step+unary.Lts-singular as singular-lts
-use Rattle.expressions.proofs.+addition+advance+deref_steps+field+group+item+multiplication+parse_expression+primary+reference+rest_of_list+singular+step+unary.Proof.Shared.{singular-at, unary-below}
+use Rattle.expressions.proofs.+addition+advance+deref_steps+field+group+item+multiplication+next_field+parse_expression+primary+reference+rest_of_fields+rest_of_list+singular+step+unary.Lts-singular as singular-lts
+use Rattle.expressions.proofs.+addition+advance+deref_steps+field+group+item+multiplication+next_field+parse_expression+primary+reference+rest_of_fields+rest_of_list+singular+step+unary.Proof.Shared.{singular-at, unary-below}
 
 abbrev calls : ℕ → singular-lts.Claims
 calls t = (

@@ -9,8 +9,8 @@ use Rattle.expressions.proofs.Bounds.{field-slots, colon-sized}
 use Rattle.expressions.proofs.Laws.{field-short, field-stopped, field-read, field-unnamed}
 use Rattle.expressions.proofs.parse_expression.Reads as expression
 use Rattle.expressions.proofs.field.Reads as field
-use Rattle.expressions.proofs.+addition+advance+deref_steps+field+group+item+multiplication+parse_expression+primary+reference+rest_of_list+singular+step+unary.Lts-field as field-lts
-use Rattle.expressions.proofs.+addition+advance+deref_steps+field+group+item+multiplication+parse_expression+primary+reference+rest_of_list+singular+step+unary.Proof.Shared.{expression-below, field-at}
+use Rattle.expressions.proofs.+addition+advance+deref_steps+field+group+item+multiplication+next_field+parse_expression+primary+reference+rest_of_fields+rest_of_list+singular+step+unary.Lts-field as field-lts
+use Rattle.expressions.proofs.+addition+advance+deref_steps+field+group+item+multiplication+next_field+parse_expression+primary+reference+rest_of_fields+rest_of_list+singular+step+unary.Proof.Shared.{expression-below, field-at}
 
 abbrev calls : ℕ → field-lts.Claims
 calls t = (

@@ -5,8 +5,8 @@ use Rattle.expressions.proofs.Bounds.{past-expression, expression-slots
 use Rattle.expressions.proofs.Laws.{group-stopped, group-read}
 use Rattle.expressions.proofs.parse_expression.Reads as expression
 use Rattle.expressions.proofs.group.Reads as group
-use Rattle.expressions.proofs.+addition+advance+deref_steps+field+group+item+multiplication+parse_expression+primary+reference+rest_of_list+singular+step+unary.Lts-group as group-lts
-use Rattle.expressions.proofs.+addition+advance+deref_steps+field+group+item+multiplication+parse_expression+primary+reference+rest_of_list+singular+step+unary.Proof.Shared.{expression-below, group-at}
+use Rattle.expressions.proofs.+addition+advance+deref_steps+field+group+item+multiplication+next_field+parse_expression+primary+reference+rest_of_fields+rest_of_list+singular+step+unary.Lts-group as group-lts
+use Rattle.expressions.proofs.+addition+advance+deref_steps+field+group+item+multiplication+next_field+parse_expression+primary+reference+rest_of_fields+rest_of_list+singular+step+unary.Proof.Shared.{expression-below, group-at}
 
 abbrev calls : ℕ → group-lts.Claims
 calls t = (expression-below t, expression.Post, push-closed-reads.Asked, push-closed-reads.Learnt)

@@ -4,15 +4,16 @@ use borrow.Author.Needs.{needs}
 use lib.ListN.{length}
 use Rattle.nodes.specs.Answer.{past}
 use Rattle.codes.specs.Answer.{nodes, Sized}
+use Rattle.lists.specs.Answer.{ownerOf}
 use Rattle.lists.proofs.closing_of.Reads as closing-of-reads
 use Rattle.lists.proofs.finish_list.Reads as finish-list-reads
 use Rattle.nodes.proofs.start_list.Reads as start-list-reads
-use Rattle.expressions.proofs.Items.{none-fits, Items, first-item, list-refused, list-read, list-slots}
+use Rattle.expressions.proofs.Items.{none-fits, not-brace, Items, first-item, list-refused, list-read, list-slots}
 use Rattle.expressions.proofs.Items.{list-fits, turn-sized, turn-fits, turn-counts, turn-less, next-item}
 use Rattle.expressions.proofs.rest_of_list.Reads as rest-of-list
 use Rattle.expressions.proofs.item.Reads as item
-use Rattle.expressions.proofs.+addition+advance+deref_steps+field+group+item+multiplication+parse_expression+primary+reference+rest_of_list+singular+step+unary.Lts-rest_of_list as rest-of-list-lts
-use Rattle.expressions.proofs.+addition+advance+deref_steps+field+group+item+multiplication+parse_expression+primary+reference+rest_of_list+singular+step+unary.Proof.Shared.{rest-of-list-at, item-below}
+use Rattle.expressions.proofs.+addition+advance+deref_steps+field+group+item+multiplication+next_field+parse_expression+primary+reference+rest_of_fields+rest_of_list+singular+step+unary.Lts-rest_of_list as rest-of-list-lts
+use Rattle.expressions.proofs.+addition+advance+deref_steps+field+group+item+multiplication+next_field+parse_expression+primary+reference+rest_of_fields+rest_of_list+singular+step+unary.Proof.Shared.{rest-of-list-at, item-below}
 
 abbrev calls : ℕ → rest-of-list-lts.Claims
 calls t = (
@@ -31,7 +32,7 @@ Inv-loop kinds types node-kinds₀ node-loads₀ count unused owner closing list
     node-loads list items place used =
     (length node-kinds ≡ length node-kinds₀) × (length node-loads ≡ length node-loads₀) ×
     Sized kinds types node-kinds node-loads place used × (past list ≤ used) × (items ≤ used) ×
-    Items kinds types unused owner closing place₀ (nodes node-kinds₀ node-loads₀ used₀) list items place
+    Items kinds types unused (ownerOf owner) closing place₀ (nodes node-kinds₀ node-loads₀ used₀) list items place
     (nodes node-kinds node-loads used)
 
 abbrev μ-loop : rest-of-list-lts.MeasureT-loop
@@ -41,7 +42,7 @@ abbrev μ-loop : rest-of-list-lts.MeasureT-loop
 
 item-requires : (t : ℕ) →
     rest-of-list-lts.Need-item-requires (calls t) (rest-of-list-at t) rest-of-list.Post Inv-loop μ-loop
-item-requires t c κs = (search needs, (search needs, search needs, search needs))
+item-requires t c κs = (search needs, (search needs, search needs, search needs, search (needs, not-brace)))
 
 loop-less : (t : ℕ) → rest-of-list-lts.Need-loop-less (calls t) (rest-of-list-at t) rest-of-list.Post Inv-loop μ-loop
 loop-less t c = search (needs, turn-less)
@@ -64,7 +65,7 @@ finish-list-requires t c κs =
     let c₃ = c₂ .before .before .before in
     let c₄ = c₃ .before .before .before .before .before .before .before in
     let i = c₃ .loop .inv in (
-      list-slots _ _ _ (c₄ .args .owner) _ _ _ _ _ _ (i .5) (c₂ .item .ensures) (i .2) (i .3) (i .4)
+      list-slots _ _ _ (ownerOf (c₄ .args .owner)) _ _ _ _ _ _ (i .5) (c₂ .item .ensures) (i .2) (i .3) (i .4)
           (c₁ .whole .given .1),
       search (needs, list-fits),
     )

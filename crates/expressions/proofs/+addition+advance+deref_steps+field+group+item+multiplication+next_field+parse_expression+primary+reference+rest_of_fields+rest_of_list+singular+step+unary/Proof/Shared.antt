@@ -12,6 +12,8 @@ use Rattle.expressions.proofs.group.Reads as group
 use Rattle.expressions.proofs.group.Kinds as group-kinds
 use Rattle.expressions.proofs.item.Reads as item
 use Rattle.expressions.proofs.item.Kinds as item-kinds
+use Rattle.expressions.proofs.next_field.Reads as next-field
+use Rattle.expressions.proofs.next_field.Kinds as next-field-kinds
 use Rattle.expressions.proofs.addition.Reads as addition
 use Rattle.expressions.proofs.addition.Kinds as addition-kinds
 use Rattle.expressions.proofs.deref_steps.Reads as deref-steps
@@ -24,6 +26,8 @@ use Rattle.expressions.proofs.primary.Reads as primary
 use Rattle.expressions.proofs.primary.Kinds as primary-kinds
 use Rattle.expressions.proofs.reference.Reads as reference
 use Rattle.expressions.proofs.reference.Kinds as reference-kinds
+use Rattle.expressions.proofs.rest_of_fields.Reads as rest-of-fields
+use Rattle.expressions.proofs.rest_of_fields.Kinds as rest-of-fields-kinds
 use Rattle.expressions.proofs.rest_of_list.Reads as rest-of-list
 use Rattle.expressions.proofs.rest_of_list.Kinds as rest-of-list-kinds
 use Rattle.expressions.proofs.singular.Reads as singular
@@ -74,6 +78,15 @@ item-at = at item-kinds.ps μ-item item.Pre
 
 abbrev pub item-below : ℕ → In 4 item-kinds.ps
 item-below = below item-kinds.ps μ-item item.Pre
+
+abbrev pub μ-next-field : Measures 4 next-field-kinds.ps ℕ
+μ-next-field κs a = a .1 .1 .1 .1 .1 .1 .0 * 9 + 2
+
+abbrev pub next-field-at : ℕ → In 4 next-field-kinds.ps
+next-field-at = at next-field-kinds.ps μ-next-field next-field.Pre
+
+abbrev pub next-field-below : ℕ → In 4 next-field-kinds.ps
+next-field-below = below next-field-kinds.ps μ-next-field next-field.Pre
 
 abbrev pub μ-addition : Measures 4 addition-kinds.ps ℕ
 μ-addition κs a = a .1 .1 .1 .1 .1 .1 .0 * 9 + 8
@@ -128,6 +141,15 @@ reference-at = at reference-kinds.ps μ-reference reference.Pre
 
 abbrev pub reference-below : ℕ → In 4 reference-kinds.ps
 reference-below = below reference-kinds.ps μ-reference reference.Pre
+
+abbrev pub μ-rest-of-fields : Measures 4 rest-of-fields-kinds.ps ℕ
+μ-rest-of-fields κs a = a .1 .1 .1 .1 .1 .1 .0 * 9 + 3
+
+abbrev pub rest-of-fields-at : ℕ → In 4 rest-of-fields-kinds.ps
+rest-of-fields-at = at rest-of-fields-kinds.ps μ-rest-of-fields rest-of-fields.Pre
+
+abbrev pub rest-of-fields-below : ℕ → In 4 rest-of-fields-kinds.ps
+rest-of-fields-below = below rest-of-fields-kinds.ps μ-rest-of-fields rest-of-fields.Pre
 
 abbrev pub μ-rest-of-list : Measures 4 rest-of-list-kinds.ps ℕ
 μ-rest-of-list κs a = a .1 .1 .1 .1 .1 .1 .0 * 9 + 3

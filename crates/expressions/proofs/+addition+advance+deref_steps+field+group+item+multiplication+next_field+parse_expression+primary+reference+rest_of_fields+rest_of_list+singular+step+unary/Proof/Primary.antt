@@ -3,15 +3,16 @@ use borrow.Author.Needs.{needs}
 use Rattle.literals.proofs.parse_literal.Reads as parse-literal-reads
 use Rattle.openings.proofs.parse_opening.Reads as parse-opening-reads
 use Rattle.references.proofs.push_name.Reads as push-name-reads
-use Rattle.expressions.proofs.Bounds.{list-sized, reference-sized, group-sized, name-slots}
-use Rattle.expressions.proofs.Laws.{list-opened, reference-opened, name-opened, group-opened, literal-opened}
-use Rattle.expressions.proofs.Laws.{primary-refused}
+use Rattle.expressions.proofs.Bounds.{list-sized, fields-sized, reference-sized, group-sized, name-slots}
+use Rattle.expressions.proofs.Laws.{list-opened, fields-opened, reference-opened, name-opened, group-opened}
+use Rattle.expressions.proofs.Laws.{literal-opened, primary-refused}
+use Rattle.expressions.proofs.rest_of_fields.Reads as rest-of-fields
 use Rattle.expressions.proofs.rest_of_list.Reads as rest-of-list
 use Rattle.expressions.proofs.group.Reads as group
 use Rattle.expressions.proofs.primary.Reads as primary
 use Rattle.expressions.proofs.reference.Reads as reference
-use Rattle.expressions.proofs.+addition+advance+deref_steps+field+group+item+multiplication+parse_expression+primary+reference+rest_of_list+singular+step+unary.Lts-primary as primary-lts
-use Rattle.expressions.proofs.+addition+advance+deref_steps+field+group+item+multiplication+parse_expression+primary+reference+rest_of_list+singular+step+unary.Proof.Shared.{rest-of-list-below, group-below, primary-at, reference-below}
+use Rattle.expressions.proofs.+addition+advance+deref_steps+field+group+item+multiplication+next_field+parse_expression+primary+reference+rest_of_fields+rest_of_list+singular+step+unary.Lts-primary as primary-lts
+use Rattle.expressions.proofs.+addition+advance+deref_steps+field+group+item+multiplication+next_field+parse_expression+primary+reference+rest_of_fields+rest_of_list+singular+step+unary.Proof.Shared.{rest-of-list-below, rest-of-fields-below, group-below, primary-at, reference-below}
 
 abbrev calls : ℕ → primary-lts.Claims
 calls t = (
@@ -19,6 +20,8 @@ calls t = (
   parse-opening-reads.Learnt,
   rest-of-list-below t,
   rest-of-list.Post,
+  rest-of-fields-below t,
+  rest-of-fields.Post,
   reference-below t,
   reference.Post,
   push-name-reads.Asked,
@@ -33,6 +36,9 @@ rest-of-list-requires : (t : ℕ) →
     primary-lts.Need-rest-of-list-requires (calls t) (primary-at t) primary.Post
 rest-of-list-requires t c κs = (search needs, search (needs, list-sized))
 
+rest-of-fields-requires : (t : ℕ) → primary-lts.Need-rest-of-fields-requires (calls t) (primary-at t) primary.Post
+rest-of-fields-requires t c κs = (search needs, search (needs, fields-sized))
+
 reference-requires : (t : ℕ) → primary-lts.Need-reference-requires (calls t) (primary-at t) primary.Post
 reference-requires t c κs = (search needs, search (needs, reference-sized))
 
@@ -46,19 +52,22 @@ returns : (t : ℕ) → primary-lts.Need-returns (calls t) (primary-at t) primar
 returns t c = search (needs, list-opened)
 
 returns-2 : (t : ℕ) → primary-lts.Need-returns-2 (calls t) (primary-at t) primary.Post
-returns-2 t c = search (needs, reference-opened)
+returns-2 t c = search (needs, fields-opened)
 
 returns-3 : (t : ℕ) → primary-lts.Need-returns-3 (calls t) (primary-at t) primary.Post
-returns-3 t c = search (needs, name-opened)
+returns-3 t c = search (needs, reference-opened)
 
 returns-4 : (t : ℕ) → primary-lts.Need-returns-4 (calls t) (primary-at t) primary.Post
-returns-4 t c = search (needs, group-opened)
+returns-4 t c = search (needs, name-opened)
 
 returns-5 : (t : ℕ) → primary-lts.Need-returns-5 (calls t) (primary-at t) primary.Post
-returns-5 t c = search (needs, literal-opened)
+returns-5 t c = search (needs, group-opened)
 
 returns-6 : (t : ℕ) → primary-lts.Need-returns-6 (calls t) (primary-at t) primary.Post
-returns-6 t c = search (needs, primary-refused)
+returns-6 t c = search (needs, literal-opened)
+
+returns-7 : (t : ℕ) → primary-lts.Need-returns-7 (calls t) (primary-at t) primary.Post
+returns-7 t c = search (needs, primary-refused)
 
 pub spec : {M : Type 1} (t : ℕ) → primary-lts.Closed (calls t) (primary-at t) primary.Post M
 spec t =
@@ -66,6 +75,8 @@ spec t =
     (λ c κs. search needs)
     (λ c. search needs)
     (rest-of-list-requires t)
+    (λ c. search needs)
+    (rest-of-fields-requires t)
     (λ c. search needs)
     (reference-requires t)
     (λ c. search needs)
@@ -90,4 +101,7 @@ spec t =
     (λ c. search needs)
     (λ c. search needs)
     (returns-5 t)
+    (λ c. search needs)
+    (λ c. search needs)
     (returns-6 t)
+    (returns-7 t)

@@ -7,8 +7,8 @@ use Rattle.expressions.proofs.Bounds.{advance-slots}
 use Rattle.expressions.proofs.Laws.{advance-none, advance-stopped, advance-read}
 use Rattle.expressions.proofs.advance.Reads as advance
 use Rattle.expressions.proofs.parse_expression.Reads as expression
-use Rattle.expressions.proofs.+addition+advance+deref_steps+field+group+item+multiplication+parse_expression+primary+reference+rest_of_list+singular+step+unary.Lts-advance as advance-lts
-use Rattle.expressions.proofs.+addition+advance+deref_steps+field+group+item+multiplication+parse_expression+primary+reference+rest_of_list+singular+step+unary.Proof.Shared.{advance-at, expression-below}
+use Rattle.expressions.proofs.+addition+advance+deref_steps+field+group+item+multiplication+next_field+parse_expression+primary+reference+rest_of_fields+rest_of_list+singular+step+unary.Lts-advance as advance-lts
+use Rattle.expressions.proofs.+addition+advance+deref_steps+field+group+item+multiplication+next_field+parse_expression+primary+reference+rest_of_fields+rest_of_list+singular+step+unary.Proof.Shared.{advance-at, expression-below}
 
 abbrev calls : ℕ → advance-lts.Claims
 calls t = (

@@ -5,8 +5,8 @@ use Rattle.expressions.proofs.Laws.{reference-stopped, reference-alone,
 use Rattle.expressions.proofs.advance.Reads as advance
 use Rattle.expressions.proofs.deref_steps.Reads as deref-steps
 use Rattle.expressions.proofs.reference.Reads as reference
-use Rattle.expressions.proofs.+addition+advance+deref_steps+field+group+item+multiplication+parse_expression+primary+reference+rest_of_list+singular+step+unary.Lts-reference as reference-lts
-use Rattle.expressions.proofs.+addition+advance+deref_steps+field+group+item+multiplication+parse_expression+primary+reference+rest_of_list+singular+step+unary.Proof.Shared.{advance-below, deref-steps-below, reference-at}
+use Rattle.expressions.proofs.+addition+advance+deref_steps+field+group+item+multiplication+next_field+parse_expression+primary+reference+rest_of_fields+rest_of_list+singular+step+unary.Lts-reference as reference-lts
+use Rattle.expressions.proofs.+addition+advance+deref_steps+field+group+item+multiplication+next_field+parse_expression+primary+reference+rest_of_fields+rest_of_list+singular+step+unary.Proof.Shared.{advance-below, deref-steps-below, reference-at}
 
 abbrev calls : ℕ → reference-lts.Claims
 calls t = (deref-steps-below t, deref-steps.Post, advance-below t, advance.Post)

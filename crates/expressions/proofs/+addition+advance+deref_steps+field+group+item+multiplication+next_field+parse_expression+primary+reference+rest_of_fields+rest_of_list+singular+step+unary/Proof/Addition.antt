@@ -11,8 +11,8 @@ use Rattle.expressions.proofs.Operands.{Terms, first-term, sum-stopped,
 use Rattle.expressions.proofs.Operands.{sum-less, next-term}
 use Rattle.expressions.proofs.addition.Reads as addition
 use Rattle.expressions.proofs.multiplication.Reads as multiplication
-use Rattle.expressions.proofs.+addition+advance+deref_steps+field+group+item+multiplication+parse_expression+primary+reference+rest_of_list+singular+step+unary.Lts-addition as addition-lts
-use Rattle.expressions.proofs.+addition+advance+deref_steps+field+group+item+multiplication+parse_expression+primary+reference+rest_of_list+singular+step+unary.Proof.Shared.{addition-at, multiplication-below}
+use Rattle.expressions.proofs.+addition+advance+deref_steps+field+group+item+multiplication+next_field+parse_expression+primary+reference+rest_of_fields+rest_of_list+singular+step+unary.Lts-addition as addition-lts
+use Rattle.expressions.proofs.+addition+advance+deref_steps+field+group+item+multiplication+next_field+parse_expression+primary+reference+rest_of_fields+rest_of_list+singular+step+unary.Proof.Shared.{addition-at, multiplication-below}
 
 abbrev calls : ℕ → addition-lts.Claims
 calls t = (
