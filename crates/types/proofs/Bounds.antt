@@ -13,7 +13,7 @@ use Rattle.codes.specs.declared.TokenId.{TokenId}
 use Rattle.codes.specs.Answer.{Gives, Quiet, Sized, nodes, row}
 use Rattle.codes.proofs.Onto.{sized-after, moved, came-read, plain-parsed}
 use Rattle.nodes.specs.Answer.{Slots}
-use Rattle.nodes.proofs.Bounds.{slots}
+use Rattle.nodes.proofs.Bounds.{slots, after-push}
 use Rattle.tokens.specs.Answer.{kindIn}
 use Rattle.tokens.proofs.Bounds.{in-row}
 use Rattle.types.specs.declared.Start.{Start}
@@ -107,6 +107,12 @@ module _ {tk tv : List ℕ} {c k : ℕ} {a : Start} (g : Starts tk tv c k a)
     pub at-element : a ≡ Around kind load p j → Sized tk tv ns ls (p .0) j
     at-element q = around-on q .sized ns ls z
 
+    pub element-fits : a ≡ Around kind load p j → p .0 ≤ Limit.Tokens
+    element-fits q = let y = at-element q in omega arith
+
+    pub around-slots : a ≡ Around kind load p j → Slots ns ls j
+    around-slots q = slots (at-element q)
+
     -- and after its element type
     module _
         (q : a ≡ Around kind load p j) (u : ℕ) {r : Parsed} {ns' ls' : List ℕ}
@@ -117,3 +123,10 @@ module _ {tk tv : List ℕ} {c k : ℕ} {a : Start} (g : Starts tk tv c k a)
 
       pub element-at : p' .0 ≤ Limit.Tokens + 1
       element-at = inner-at u d w (at-element q)
+
+-- after the node of an element type of a single token
+pub enclosed-at :
+    {ns ls : List ℕ} (kind load : ℕ) {c k : ℕ} {r : Parsed} {ns' ls' : List ℕ} →
+    Gives (append kind load) (c + 1) (nodes ns ls k) r ns' ls' → {n : NodeId} {p : TokenId} {j : ℕ} → r ≡ Node n p j →
+    Slots ns ls k → c ≤ Limit.Tokens → p .0 ≤ Limit.Tokens + 1
+enclosed-at kind load g q z h = let (_, _, e) = after-push kind load g q z in omega arith

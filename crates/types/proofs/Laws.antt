@@ -25,7 +25,7 @@ use Rattle.nodes.proofs.Laws.{append-only}
 use Rattle.types.specs.declared.Short.{Short}
 use Rattle.types.specs.declared.Start.{Start}
 use Rattle.types.specs.declared.Start.the-variants.{Leaf, Around, NoType}
-use Rattle.types.specs.Answer.{sized, finishing, Onward, Starts, Shorts, spanning}
+use Rattle.types.specs.Answer.{sized, finishing, enclosing, Onward, Starts, Shorts, spanning}
 use Rattle.types.proofs.Sizes.{holding-sized, no-leaf}
 use Rattle.types.proofs.Bounds.{leaf-on, around-on, after-size, size-kind}
 use Rattle.rules.specs.Codes.{pick}
@@ -126,6 +126,31 @@ unfolding innerType
 deeper row zero h = absurd (h refl)
 deeper row (suc m) h = rw (sub-one (suc m)) refl
 
+-- an inner type of a single token is its node
+short-inner :
+    (tk tv : List ℕ) (u c : ℕ) {s : Nodes} {x : Short} → Shorts tk tv c x → x .found ≡ true → 0 < u →
+    Onto (innerType columns (row tk tv) u) c s (append (x .kind) (x .load)) (c + 1) s
+short-inner tk tv u c {s} f e h =
+    let left : u ≢ 0 = λ z. omega arith in
+    rw (deeper (row tk tv) u left)
+    (record { same = leaf-on (f .starts e (s .count)) refl .same _ (s .kinds) (s .loads) })
+
+-- an element type of a single token, and what follows it
+module _ (tk : List ℕ) (kind load kind' load' : ℕ) {c : ℕ} {s : Nodes} {r₁ : Parsed} {ks₁ ls₁ : List ℕ}
+    (g : Gives (append kind load) c s r₁ ks₁ ls₁) where
+  pub enclose-full :
+      {x : ℕ} {a e p : TokenId} {k : ℕ} → r₁ ≡ Refused x a e p k →
+      Gives (enclosing tk kind load kind' load') c s r₁ ks₁ ls₁
+  unfolding enclosing
+  enclose-full q = hands-on _ stays (told g q)
+
+  pub enclose-read :
+      {n : NodeId} {p : TokenId} {k : ℕ} → r₁ ≡ Node n p k → {r : Parsed} {ks ls : List ℕ} →
+      Gives (finishing tk kind' load') (p .0) (nodes ks₁ ls₁ k) r ks ls →
+      Gives (enclosing tk kind load kind' load') c s r ks ls
+  unfolding enclosing
+  enclose-read q d = shows (reads _ (came-read plain-parsed g q)) d
+
 -- an inner type, by its start
 module _ (tk tv : List ℕ) (u c k : ℕ) {ns ls : List ℕ} (left : u ≡ 0 → ⊥) {z : Start}
     (g : Starts tk tv c k z) where
@@ -140,23 +165,31 @@ module _ (tk tv : List ℕ) (u c k : ℕ) {ns ls : List ℕ} (left : u ≡ 0 →
         Gives (innerType columns (row tk tv) u) c (nodes ns ls k) r ns' ls'
     leaf-read q d = rw (deeper (row tk tv) u left) (shows (record { same = leaf-on g q .same _ ns ls }) d)
 
-    module _ (q : z ≡ Around kind load p j) {r₁ : Parsed} {ks₁ ls₁ : List ℕ}
-        (d : Gives (innerType columns (row tk tv) (u - 1)) (p .0) (nodes ns ls j) r₁ ks₁ ls₁) where
+    module _ (q : z ≡ Around kind load p j) where
       around :
           Onto (innerType columns (row tk tv) u) c (nodes ns ls k)
           (innerType columns (row tk tv) (u - 1) >>= λ _. finishing tk kind load) (p .0) (nodes ns ls j)
       around = rw (deeper (row tk tv) u left) (record { same = around-on g q .same _ ns ls })
 
-      pub element-stopped :
-          {x : ℕ} {a b p' : TokenId} {i : ℕ} → r₁ ≡ Refused x a b p' i →
-          Gives (innerType columns (row tk tv) u) c (nodes ns ls k) r₁ ks₁ ls₁
-      element-stopped w = hands-on _ around (told d w)
+      pub element-short :
+          {x : Short} → Shorts tk tv (p .0) x → x .found ≡ true → 0 < u - 1 → {r : Parsed} {ns' ls' : List ℕ} →
+          Gives (enclosing tk (x .kind) (x .load) kind load) (p .0 + 1) (nodes ns ls j) r ns' ls' →
+          Gives (innerType columns (row tk tv) u) c (nodes ns ls k) r ns' ls'
+      unfolding enclosing
+      element-short f e h d = shows (around then first _ (short-inner tk tv (u - 1) (p .0) f e h)) d
 
-      pub element-read :
-          {n : NodeId} {p' : TokenId} {i : ℕ} → r₁ ≡ Node n p' i → {r : Parsed} {ks' ls' : List ℕ} →
-          Gives (finishing tk kind load) (p' .0) (nodes ks₁ ls₁ i) r ks' ls' →
-          Gives (innerType columns (row tk tv) u) c (nodes ns ls k) r ks' ls'
-      element-read w f = shows (around then reads _ (came-read plain-parsed d w)) f
+      module _ {r₁ : Parsed} {ks₁ ls₁ : List ℕ}
+          (d : Gives (innerType columns (row tk tv) (u - 1)) (p .0) (nodes ns ls j) r₁ ks₁ ls₁) where
+        pub element-stopped :
+            {x : ℕ} {a b p' : TokenId} {i : ℕ} → r₁ ≡ Refused x a b p' i →
+            Gives (innerType columns (row tk tv) u) c (nodes ns ls k) r₁ ks₁ ls₁
+        element-stopped w = hands-on _ around (told d w)
+
+        pub element-read :
+            {n : NodeId} {p' : TokenId} {i : ℕ} → r₁ ≡ Node n p' i → {r : Parsed} {ks' ls' : List ℕ} →
+            Gives (finishing tk kind load) (p' .0) (nodes ks₁ ls₁ i) r ks' ls' →
+            Gives (innerType columns (row tk tv) u) c (nodes ns ls k) r ks' ls'
+        element-read w f = shows (around then reads _ (came-read plain-parsed d w)) f
 
 -- a type, once its inner type is read or refused
 module _ (tk tv : List ℕ) (u c : ℕ) {s : Nodes} {r₁ : Parsed} {ks₁ ls₁ : List ℕ}
@@ -218,18 +251,12 @@ no-span :
     Onto (here >>= λ end. pick (ltb (c + 1) end) (f n end) (pure n)) (c + 1) t (pure n) (c + 1) t
 no-span c f n t = at-here _ then picked _ _ false (le-ltb (c + 1) (c + 1) (omega arith))
 
-module _ (tk tv : List ℕ) (u c : ℕ) {s : Nodes} where
-  pub short-type :
-      {x : Short} → Shorts tk tv c x → x .found ≡ true → 0 < u →
-      Onto (type columns (row tk tv) u) c s (append (x .kind) (x .load)) (c + 1) s
-  unfolding type
-  short-type f e h =
-      let left : u ≢ 0 = λ z. omega arith in
-      at-here _ then
-      first _
-      (rw (deeper (row tk tv) u left)
-      (record { same = leaf-on (f .starts e (s .count)) refl .same _ (s .kinds) (s .loads) }))
-      then append-only _ _ _ (no-span c _)
+pub short-type :
+    (tk tv : List ℕ) (u c : ℕ) {s : Nodes} {x : Short} → Shorts tk tv c x → x .found ≡ true → 0 < u →
+    Onto (type columns (row tk tv) u) c s (append (x .kind) (x .load)) (c + 1) s
+unfolding type
+short-type tk tv u c f e h =
+    at-here _ then first _ (short-inner tk tv u c f e h) then append-only _ _ _ (no-span c _)
 
 pub short-read :
     (tk tv : List ℕ) (u c : ℕ) {s : Nodes} {r : Parsed} {ks ls : List ℕ} {x : Short} → Shorts tk tv c x →

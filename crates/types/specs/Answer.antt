@@ -30,6 +30,12 @@ finishing kinds kind load =
     (consume (row kinds kinds) BaseToken.ParenRight >>= λ _. append kind load)
     (append kind load)
 
+-- an element type of a single token, by its node, and what follows it
+unfoldable pub enclosing : List ℕ → ℕ → ℕ → ℕ → ℕ → Rule Nodes ℕ
+enclosing kinds elementKind elementLoad kind load = do
+  _ ← append elementKind elementLoad
+  finishing kinds kind load
+
 -- Whatever the rule for its element type and the node columns are, an inner type at the cursor c and with so many nodes
 -- goes on as the rule m at p and with j nodes. What every reader takes for granted holds there if it holds at c.
 pub record Onward (kinds types : List ℕ) (c count : ℕ) (m : Rule Nodes ℕ → Rule Nodes ℕ) (p j : ℕ) : Type 0 where

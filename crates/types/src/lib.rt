@@ -6,7 +6,7 @@ ghost use Rattle.rules.specs.Types.{innerType, type, arraySize};
 ghost use Rattle.rules.specs.Columns.{columns};
 ghost use Rattle.codes.specs.Answer.{Gives, Quiet, Sized, row, nodes};
 ghost use Rattle.nodes.specs.Answer.{Slots};
-ghost use Rattle.types.specs.Answer.{sized, closing, Starts, Shorts, finishing, spanning};
+ghost use Rattle.types.specs.Answer.{sized, closing, Starts, Shorts, finishing, enclosing, spanning};
 use codes::BaseToken;
 use codes::ParseNode;
 use codes::Parsed;
@@ -129,7 +129,65 @@ fn finish_inner_type(
     }
 }
 
-// An inner type. `unused` is the nesting that is left.
+// The node of a type of a single token, if there is one.
+pub fn short_type(kinds: &[u8], types: &[u8], cursor: TokenId) -> Short
+    ensures { λ r. ⌜ Shorts (now (kinds .entry)) (now (types .entry)) (cursor .0) r ⌝ }
+{
+    match peek(kinds, cursor) {
+        BaseToken::ValueTypeKeyword => Short {
+            found: true,
+            kind: ParseNode::SimpleValueType,
+            load: peek(types, cursor) as u32,
+        },
+        BaseToken::Identifier => Short {
+            found: true,
+            kind: ParseNode::UnresolvedStructOrWordVT,
+            load: cursor.0,
+        },
+        _ => Short {
+            found: false,
+            kind: 0,
+            load: 0,
+        },
+    }
+}
+
+// The element type of a single token that stands here, and the rest of the inner type around it.
+fn enclose(
+    kinds: &[u8],
+    node_kinds: &mut [u8],
+    node_loads: &mut [u32],
+    cursor: TokenId,
+    count: u32,
+    element: Short,
+    kind: u8,
+    load: u32,
+) -> Parsed
+    requires { ⌜ Slots (now «node_kinds») (now «node_loads») count × (cursor .0 ≤ Most.Tokens) ⌝ }
+    ensures { λ r. ⌜ Gives (enclosing (now (kinds .entry)) (element .kind) (element .load) kind load) (cursor .0 + 1) (nodes (now («node_kinds» .entry)) (now («node_loads» .entry)) count) r (now («node_kinds» .exit)) (now («node_loads» .exit)) ⌝ }
+{
+    let end = TokenId(cursor.0 + 1);
+    let inner = push(
+        node_kinds,
+        node_loads,
+        end,
+        count,
+        element.kind,
+        element.load,
+    );
+    let Parsed::Node {
+        root: _,
+        cursor: after,
+        count: used,
+    } = inner
+    else {
+        return inner;
+    };
+    finish_inner_type(kinds, node_kinds, node_loads, after, used, kind, load)
+}
+
+// An inner type. `unused` is the nesting that is left. An element type of a single token is read without a call of this
+// reader, and another one is given copies of the row, which are stored in the same pieces as they are loaded.
 fn parse_inner_type(
     kinds: &[u8],
     types: &[u8],
@@ -155,7 +213,22 @@ fn parse_inner_type(
         Start::Leaf(kind, load, end, used) => push(node_kinds, node_loads, end, used, kind, load),
         Start::Around(kind, load, next, used) => {
             let left = unused - 1;
-            let inner = parse_inner_type(kinds, types, node_kinds, node_loads, next, used, left);
+            let element = short_type(kinds, types, next);
+            if element.found && left > 0 {
+                return enclose(
+                    kinds,
+                    node_kinds,
+                    node_loads,
+                    next,
+                    used,
+                    element,
+                    kind,
+                    load,
+                );
+            }
+            let row = kinds;
+            let values = types;
+            let inner = parse_inner_type(row, values, node_kinds, node_loads, next, used, left);
             let Parsed::Node {
                 root: _,
                 cursor: after,
@@ -235,29 +308,6 @@ fn parse_any_type(
         push_span(node_kinds, node_loads, after, used, start)
     } else {
         inner
-    }
-}
-
-// The node of a type of a single token, if there is one.
-pub fn short_type(kinds: &[u8], types: &[u8], cursor: TokenId) -> Short
-    ensures { λ r. ⌜ Shorts (now (kinds .entry)) (now (types .entry)) (cursor .0) r ⌝ }
-{
-    match peek(kinds, cursor) {
-        BaseToken::ValueTypeKeyword => Short {
-            found: true,
-            kind: ParseNode::SimpleValueType,
-            load: peek(types, cursor) as u32,
-        },
-        BaseToken::Identifier => Short {
-            found: true,
-            kind: ParseNode::UnresolvedStructOrWordVT,
-            load: cursor.0,
-        },
-        _ => Short {
-            found: false,
-            kind: 0,
-            load: 0,
-        },
     }
 }
 
