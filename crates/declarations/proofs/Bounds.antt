@@ -58,7 +58,8 @@ pub name-past :
     o ≡ Next p j → c ≤ Limit.Tokens → p .0 ≤ Limit.Tokens + 1
 unfolding consuming consume
 name-past key g q h =
-    let e = ap (λ (o : Outcome Nodes (Unit {0})). o .cursor) (came-read (holding-consumed .plain) (g .run [] [] []) q .same) in
+    let d = came-read (holding-consumed .plain) (g .run [] [] []) q in
+    let e = ap (λ (o : Outcome Nodes (Unit {0})). o .cursor) (d .same) in
     omega arith
 
 -- after the name and the colon before a type

@@ -26,7 +26,8 @@ use Rattle.types.proofs.Laws.{short-type}
 use Rattle.references.specs.declared.Stepped.{Stepped}
 use Rattle.references.specs.declared.Stepped.the-variants.{Last, Refused as Stopped}
 use Rattle.references.specs.Answer.{Unread, stepped, stepping}
-use Rattle.declarations.specs.Answer.{coloned, named, memberTyped, declaring, structured, opaqueStruct, valued, memberEnding}
+use Rattle.declarations.specs.Answer.{coloned, named, memberTyped, declaring, structured, opaqueStruct}
+use Rattle.declarations.specs.Answer.{valued, memberEnding}
 use Rattle.rules.specs.Codes.BaseToken as BaseToken
 use Rattle.rules.specs.Codes.ParseNode as ParseNode
 use Rattle.rules.specs.Codes.Refusal as Refusal
@@ -55,20 +56,20 @@ module _ (tk : List ℕ) (number c k t : ℕ) (peeked : t ≡ kindIn tk c) where
   }
 
 -- a name and a colon
-module _ (tk : List ℕ) (number c : ℕ) {k : ℕ} {o : Consumed} (g : Quiet consumed (consuming BaseToken.Identifier) tk c k o)
-  where
-    pub unnamed : {r : Parsed} → o ≡ Wrong r → Quiet consumed (named number) tk c k (Wrong r)
-    unfolding named consuming
-    unnamed w = record { run = λ tv ks ls. hands-on _ stays (held holding-consumed (g .run tv ks ls) w) }
+module _ (tk : List ℕ) (number c : ℕ) {k : ℕ} {o : Consumed}
+    (g : Quiet consumed (consuming BaseToken.Identifier) tk c k o) where
+  pub unnamed : {r : Parsed} → o ≡ Wrong r → Quiet consumed (named number) tk c k (Wrong r)
+  unfolding named consuming
+  unnamed w = record { run = λ tv ks ls. hands-on _ stays (held holding-consumed (g .run tv ks ls) w) }
 
-    pub named-read :
-        {p : TokenId} {j : ℕ} → o ≡ Next p j → {o' : Consumed} → Quiet consumed (coloned number) tk (p .0) j o' →
-        Quiet consumed (named number) tk c k o'
-    unfolding named consuming coloned
-    named-read q d = record {
-      run = λ tv ks ls.
-          shows (reads _ (came-read (holding-consumed .plain) (g .run tv ks ls) q)) (d .run tv ks ls);
-    }
+  pub named-read :
+      {p : TokenId} {j : ℕ} → o ≡ Next p j → {o' : Consumed} → Quiet consumed (coloned number) tk (p .0) j o' →
+      Quiet consumed (named number) tk c k o'
+  unfolding named consuming coloned
+  named-read q d = record {
+    run = λ tv ks ls.
+        shows (reads _ (came-read (holding-consumed .plain) (g .run tv ks ls) q)) (d .run tv ks ls);
+  }
 
 -- and a type
 module _ (tk tv : List ℕ) (number u c : ℕ) {k : ℕ} {ks ls : List ℕ} {o : Consumed}

@@ -105,7 +105,8 @@ closings (structural name) = (refl, refl)
 closings elements = (refl, refl)
 
 -- no list of expressions ends in a brace
-pub not-brace : (owner : Code) {closing : ℕ} → closing ≡ closingOf (ownerOf owner) → eqb closing BaseToken.BraceRight ≡ false
+pub not-brace :
+    (owner : Code) {closing : ℕ} → closing ≡ closingOf (ownerOf owner) → eqb closing BaseToken.BraceRight ≡ false
 not-brace (Call name builtin) e = rw e refl
 not-brace Elements e = rw e refl
 

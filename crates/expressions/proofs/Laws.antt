@@ -44,7 +44,8 @@ use Rattle.rules.specs.Codes.{pick}
 use Rattle.rules.specs.Reading.{Row, Rule, Result, ok, no, next, pure, choose, _>>=_, optional}
 use Rattle.rules.specs.Columns.{Nodes, append, columns}
 use Rattle.rules.specs.Types.{type}
-use Rattle.rules.specs.Expressions.{structural, binary, advanced, singular, singularEnd, sizeOf, listItem, field, expression}
+use Rattle.rules.specs.Expressions.{structural, binary, advanced, singular, singularEnd, sizeOf, listItem, field}
+use Rattle.rules.specs.Expressions.{expression}
 use Rattle.rules.specs.Expressions.{nameAlone, parenthesized, prefix, prefixed, lengthOf, unary}
 
 -- the operand's place, by the first token of a unary

@@ -1,24 +1,49 @@
 -- An expression of one token and one node: a sum without operator whose operand has no prefix, no step and no cast.
 use mathlib.Core.Path.{_≡_, refl, sym, _∙_}
 use mathlib.Core.Bool.{Bool, true, false, true≢false}
-use mathlib.Core.List.{List}
+use mathlib.Core.List.{List, [], _∷_}
 use Prim.Native.Nat.{ℕ, _+_}
 use lib.ListN.{length}
 use lib.Dec.{eqb}
+use borrow.Author.Tests.{eqb-true}
 use Rattle.codes.specs.Answer.{row}
-use Rattle.codes.proofs.Onto.{Onto, _then_, stays, first, reads, at-here, peeks, regroup}
+use Rattle.codes.proofs.Onto.{Onto, _then_, stays, first, reads, at-here, peeks, regroup, Rest, no-entry}
 use Rattle.codes.proofs.Loops.{round, round-last}
 use Rattle.nodes.proofs.Laws.{append-only}
 use Rattle.tokens.specs.Answer.{kindIn}
 use Rattle.tokens.proofs.Laws.{not-there, apart}
-use Rattle.literals.specs.Answer.{Ender, parenthesis, brace, bracket, semicolon, comma, Ends, Lone}
+use Rattle.literals.specs.Answer.{ends, integers, lone, Lone}
 use Rattle.literals.proofs.Laws.{Plainly, decimal, bits, char, boolean, plainly}
+use Rattle.rules.specs.Codes.{pick}
 use Rattle.rules.specs.Codes.BaseToken as BaseToken
 use Rattle.rules.specs.Codes.ParseNode as ParseNode
 use Rattle.rules.specs.Reading.{Rule, Row, Step, kindOf, done, pure, choose, loop, _>>=_}
 use Rattle.rules.specs.Columns.{Nodes, append, columns}
 use Rattle.rules.specs.Expressions.{joinedTo, coerced, singularEnd, nextFactor, nextTerm, follows, factorEnd, termEnd}
 use Rattle.rules.specs.Expressions.{unary, singular, factor, product, term, sum}
+
+-- the tokens with which no expression goes on
+data Ender : ℕ → Type 0 where
+  parenthesis : Ender BaseToken.ParenRight
+  brace : Ender BaseToken.BraceRight
+  bracket : Ender BaseToken.BracketRight
+  semicolon : Ender BaseToken.Semicolon
+  comma : Ender BaseToken.Comma
+
+-- a table of tokens with true for each has this one
+among :
+    (t : ℕ) {key : ℕ} → Ender key → (rest : Bool) → (rest ≡ true → Ender t) →
+    pick (eqb t key) true rest ≡ true → Ender t
+among t {key} d rest f = go (eqb t key) refl
+  where
+    go : (b : Bool) → eqb t key ≡ b → pick b true rest ≡ true → Ender t
+    go true e q = rw (eqb-true t key e) d
+    go false e q = f q
+
+ender : (t : ℕ) → ends t ≡ true → Ender t
+ender t =
+    among t parenthesis _ (among t brace _ (among t bracket _ (among t semicolon _ (among t comma _
+    (λ q. absurd (true≢false (sym q)))))))
 
 -- a loop whose first round reads a node and is the last one
 once :
@@ -96,25 +121,29 @@ module _ (tk tv : List ℕ) (c t : ℕ) (peeked : t ≡ kindIn tk c) (expr ty : 
     lone-product =
         once (row tk tv) _ _ kind c stays lone-singular (λ n x. reads _ stays then no-factor (row tk tv) d peeked' n x)
 
-    pub lone-sum : Onto (sum columns (row tk tv) expr ty) c s (append kind c) (c + 1) s
+    lone-sum : Onto (sum columns (row tk tv) expr ty) c s (append kind c) (c + 1) s
     unfolding sum term termEnd joinedTo follows
-    lone-sum = once (row tk tv) _ _ kind c stays lone-product (λ n x. reads _ stays then no-term (row tk tv) d peeked' n x)
+    lone-sum =
+        once (row tk tv) _ _ kind c stays lone-product (λ n x. reads _ stays then no-term (row tk tv) d peeked' n x)
 
 -- an integer, by the token after it, and any other token
 module _ (tk : List ℕ) (c t : ℕ) (peeked : t ≡ kindIn tk c) where
-  pub lone-read :
-      {key : ℕ} → Plainly key ParseNode.UntypedIntegerLiteral → t ≡ key → {t' : ℕ} → t' ≡ kindIn tk (c + 1) →
-      {r : Bool} → Ends t' r → Lone tk c r
-  lone-read y e {t'} p d = record {
-    whole = λ q tv expr ty s. lone-sum tk tv c t peeked expr ty y e t' p (d .ender q) s .same;
+  module _ {t' : ℕ} (p : t' ≡ kindIn tk (c + 1)) {r : Bool} (d : r ≡ ends t') where
+    lone-read :
+        {key : ℕ} → Plainly key ParseNode.UntypedIntegerLiteral → t ≡ key → r ≡ lone tk c → Lone tk c r
+    lone-read y e q = record {
+      is = q;
+      whole = λ b tv expr ty s. lone-sum tk tv c t peeked expr ty y e t' p (ender t' (sym d ∙ b)) s .same;
+    }
+
+    pub lone-decimal : t ≡ BaseToken.NakedDecimal → Lone tk c r
+    lone-decimal e = lone-read decimal e (d ∙ rw (← peeked, e, p) refl)
+
+    pub lone-bits : t ≡ BaseToken.BitInteger → Lone tk c r
+    lone-bits e = lone-read bits e (d ∙ rw (← peeked, e, p) refl)
+
+  pub not-lone : Rest t (Unit {0}) (BaseToken.NakedDecimal ∷ BaseToken.BitInteger ∷ []) → Lone tk c false
+  not-lone h = record {
+    is = sym (rw (← peeked) (no-entry t (Unit {0}) (integers (ends (kindIn tk (c + 1)))) false h));
+    whole = λ q. absurd (true≢false (sym q));
   }
-
-pub not-lone : (tk : List ℕ) (c : ℕ) → Lone tk c false
-not-lone tk c = record { whole = λ q. absurd (true≢false (sym q)) }
-
--- a token with which no expression goes on, and any other
-pub ends-by : {key t : ℕ} → Ender key → t ≡ key → Ends t true
-ends-by d e = record { ender = λ q. rw e d }
-
-pub ends-none : (t : ℕ) → Ends t false
-ends-none t = record { ender = λ q. absurd (true≢false (sym q)) }

@@ -1,12 +1,13 @@
 -- The answers of the code as the rules give them.
 use Prim.Native.Nat.{ℕ, _+_}
-use mathlib.Core.Bool.{Bool, true}
-use mathlib.Core.List.{List}
+use mathlib.Core.Bool.{Bool, true, false}
+use mathlib.Core.List.{List, [], _∷_}
 use mathlib.Core.Path.{_≡_}
 use Rattle.codes.specs.declared.Parsed.{Parsed}
 use Rattle.codes.specs.declared.TokenId.{TokenId}
 use Rattle.codes.specs.Answer.{Gives, row}
 use Rattle.tokens.specs.Answer.{kindIn}
+use Rattle.rules.specs.Codes.{entry, _⇒_}
 use Rattle.rules.specs.Codes.BaseToken as BaseToken
 use Rattle.rules.specs.Codes.ParseNode as ParseNode
 use Rattle.rules.specs.Reading.{Rule, Row, ok, loop}
@@ -42,19 +43,30 @@ pub record Literal (kinds types : List ℕ) (t c : ℕ) (s : Nodes) (r : Parsed)
       (expr : Rule Nodes ℕ) → Gives (primary columns (row kinds types) expr) c s r ks ls
 
 -- the tokens with which no expression goes on
-pub data Ender : ℕ → Type 0 where
-  parenthesis : Ender BaseToken.ParenRight
-  brace : Ender BaseToken.BraceRight
-  bracket : Ender BaseToken.BracketRight
-  semicolon : Ender BaseToken.Semicolon
-  comma : Ender BaseToken.Comma
+abbrev pub enders : List (ℕ × Bool)
+enders =
+    BaseToken.ParenRight ⇒ true
+    ∷ BaseToken.BraceRight ⇒ true
+    ∷ BaseToken.BracketRight ⇒ true
+    ∷ BaseToken.Semicolon ⇒ true
+    ∷ BaseToken.Comma ⇒ true
+    ∷ []
 
-pub record Ends (t : ℕ) (r : Bool) : Type 0 where
-  pub ender : r ≡ true → Ender t
+abbrev pub ends : ℕ → Bool
+ends t = entry t enders false
 
--- If so, the sum that begins at the cursor is the node of an integer, whatever the value types, the rules for what may
--- be inside of it and the nodes are.
+-- the integers without a type, each with the same answer
+abbrev pub integers : Bool → List (ℕ × Bool)
+integers b = BaseToken.NakedDecimal ⇒ b ∷ BaseToken.BitInteger ⇒ b ∷ []
+
+-- whether an integer without a type stands at the cursor, and a token with which no expression goes on after it
+abbrev pub lone : List ℕ → ℕ → Bool
+lone kinds c = entry (kindIn kinds c) (integers (ends (kindIn kinds (c + 1)))) false
+
+-- So it is; and if so, the sum that begins there is the node of that integer, whatever the value types, the rules for
+-- what may be inside of it and the nodes are.
 pub record Lone (kinds : List ℕ) (c : ℕ) (r : Bool) : Type 0 where
+  pub is : r ≡ lone kinds c
   pub whole :
       r ≡ true → (types : List ℕ) (expr ty : Rule Nodes ℕ) (s : Nodes) →
       sum columns (row kinds types) expr ty c s ≡ append ParseNode.UntypedIntegerLiteral c (c + 1) s

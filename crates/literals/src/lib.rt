@@ -1,10 +1,11 @@
 // Literals, after parse_primary_expression of the Rust's parser.rs.
+ghost use mathlib.Core.Path.{_≡_};
 ghost use Prim.Native.Nat.{_+_, _≤_};
 ghost use lib.ListN.{length};
 ghost use Rattle.rules.specs.Codes.Limit as Most;
 ghost use Rattle.codes.specs.Answer.{Untyped, Sized, parsed, nodes};
 ghost use Rattle.nodes.specs.Answer.{Slots};
-ghost use Rattle.literals.specs.Answer.{Ending, Unkinded, Literal, Ends, Lone, joining, suffixed};
+ghost use Rattle.literals.specs.Answer.{Ending, Unkinded, Literal, Lone, ends, joining, suffixed};
 use codes::BaseToken;
 use codes::ParseNode;
 use codes::Parsed;
@@ -143,7 +144,7 @@ pub fn parse_literal(
 
 // Whether no expression goes on with this token.
 fn ends_expression(token: u8) -> bool
-    ensures { λ r. ⌜ Ends token r ⌝ }
+    ensures { λ r. ⌜ r ≡ ends token ⌝ }
 {
     match token {
         BaseToken::ParenRight => true,

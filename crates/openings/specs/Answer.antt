@@ -13,7 +13,8 @@ use Rattle.rules.specs.Codes.{pick}
 use Rattle.rules.specs.Codes.BaseToken as BaseToken
 use Rattle.rules.specs.Reading.{Rule, Row, _>>=_}
 use Rattle.rules.specs.Columns.{Nodes, columns}
-use Rattle.rules.specs.Expressions.{Owner, structural, items, stepped, advanced, nameAlone, parenthesized, named, builtin, pointer}
+use Rattle.rules.specs.Expressions.{Owner, structural, items, stepped, advanced, nameAlone, parenthesized, named}
+use Rattle.rules.specs.Expressions.{builtin, pointer}
 use Rattle.rules.specs.Expressions.{reference, primary}
 
 -- a rule that holds expressions, for every row and every rule for an expression in it

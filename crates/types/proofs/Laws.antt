@@ -4,7 +4,6 @@ use mathlib.Core.Bool.{Bool, true, false, true≢false}
 use mathlib.Core.List.{List, [], _∷_}
 use mathlib.Core.Logic.{_≢_}
 use Prim.Native.Nat.{ℕ, zero, suc, _+_, _-_, _≤_, _<_}
-use lib.ListN.{length}
 use lib.Dec.{ltb}
 use borrow.Author.Tests.{lt-ltb, le-ltb, eq-eqb, ne-eqb}
 use native.Mathlib.Omega.{arith}
@@ -13,9 +12,9 @@ use Rattle.codes.specs.declared.Parsed.{Parsed}
 use Rattle.codes.specs.declared.Parsed.the-variants.{Node, Refused}
 use Rattle.codes.specs.declared.NodeId.{NodeId}
 use Rattle.codes.specs.declared.TokenId.{TokenId}
-use Rattle.codes.specs.Answer.{Gives, Quiet, nodes, token, nodeId, row, refusal}
+use Rattle.codes.specs.Answer.{Gives, Quiet, nodes, token, row, refusal}
 use Rattle.codes.proofs.Onto.{Onto, _then_, stays, reads, at-here, takes, answers, declines, shows, told, held}
-use Rattle.codes.proofs.Onto.{first, hands-on, came-read, plain-parsed, Rest, beside, picked}
+use Rattle.codes.proofs.Onto.{first, hands-on, came-read, plain-parsed, Rest, no-entry, beside, picked}
 use Rattle.tokens.specs.declared.Consumed.{Consumed}
 use Rattle.tokens.specs.declared.Consumed.the-variants.{Next, Wrong}
 use Rattle.tokens.specs.Answer.{kindIn, consumed, consuming}
@@ -28,7 +27,7 @@ use Rattle.types.specs.declared.Start.the-variants.{Leaf, Around, NoType
 use Rattle.types.specs.Answer.{sized, finishing, enclosing, Onward, Starts, Shorts, spanning}
 use Rattle.types.proofs.Sizes.{holding-sized, no-leaf}
 use Rattle.types.proofs.Bounds.{leaf-on, around-on, after-size, size-kind}
-use Rattle.rules.specs.Codes.{pick}
+use Rattle.rules.specs.Codes.{pick, _⇒_}
 use Rattle.rules.specs.Codes.BaseToken as BaseToken
 use Rattle.rules.specs.Codes.ParseNode as ParseNode
 use Rattle.rules.specs.Codes.Refusal as Refusal
@@ -235,15 +234,25 @@ module _ (tk tv : List ℕ) (c t : ℕ) (peeked : t ≡ kindIn tk c) where
   pub short-keyword :
       t ≡ BaseToken.ValueTypeKeyword → {v : ℕ} → v ≡ kindIn tv c →
       Shorts tk tv c (record { found = true; kind = ParseNode.SimpleValueType; load = v })
-  short-keyword e q = record { starts = λ _ k. begins tk tv c t k peeked (keyword q) e }
+  short-keyword e q = record {
+    is = rw (← peeked, e) refl;
+    starts = λ _ k. begins tk tv c t k peeked (keyword q) e;
+  }
 
   pub short-name :
       t ≡ BaseToken.Identifier →
       Shorts tk tv c (record { found = true; kind = ParseNode.UnresolvedStructOrWordVT; load = c })
-  short-name e = record { starts = λ _ k. begins tk tv c t k peeked name e }
+  short-name e = record { is = rw (← peeked, e) refl; starts = λ _ k. begins tk tv c t k peeked name e }
 
-pub not-short : (tk tv : List ℕ) (c kind load : ℕ) → Shorts tk tv c (record { found = false; kind = kind; load = load })
-not-short tk tv c kind load = record { starts = λ e. absurd (true≢false (sym e)) }
+  pub not-short :
+      (kind load : ℕ) → Rest t (Unit {0}) (BaseToken.ValueTypeKeyword ∷ BaseToken.Identifier ∷ []) →
+      Shorts tk tv c (record { found = false; kind = kind; load = load })
+  not-short kind load h = record {
+    is =
+        sym (rw (← peeked)
+        (no-entry t (Unit {0}) (BaseToken.ValueTypeKeyword ⇒ true ∷ BaseToken.Identifier ⇒ true ∷ []) false h));
+    starts = λ e. absurd (true≢false (sym e));
+  }
 
 -- Such a type is its node: after one token there is no span.
 no-span :

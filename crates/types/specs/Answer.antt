@@ -1,14 +1,15 @@
 -- The answers of the code as the rules give them.
 use Prim.Native.Nat.{ℕ, _+_}
-use mathlib.Core.Bool.{true}
+use mathlib.Core.Bool.{true, false}
 use mathlib.Core.Path.{_≡_}
-use mathlib.Core.List.{List}
+use mathlib.Core.List.{List, [], _∷_}
 use lib.Dec.{eqb}
 use Rattle.codes.specs.Answer.{Form, Gives, Sized, nodes, row, token}
+use Rattle.tokens.specs.Answer.{kindIn}
 use Rattle.types.specs.declared.Short.{Short}
 use Rattle.types.specs.declared.Start.{Start}
 use Rattle.types.specs.declared.Start.the-variants.{Leaf, Around, NoType}
-use Rattle.rules.specs.Codes.{pick}
+use Rattle.rules.specs.Codes.{pick, entry, _⇒_}
 use Rattle.rules.specs.Codes.BaseToken as BaseToken
 use Rattle.rules.specs.Codes.ParseNode as ParseNode
 use Rattle.rules.specs.Reading.{Rule, Row, _>>=_, consume}
@@ -53,8 +54,11 @@ Starts kinds types c count (NoType r) =
     (element : Rule Nodes ℕ) (ks ls : List ℕ) →
     Gives (innerFrom columns (row kinds types) element) c (nodes ks ls count) r ks ls
 
--- an inner type of a single token starts with its node
+-- Whether an inner type is of a single token, by its kind; and if so, it starts with this node.
 pub record Shorts (kinds types : List ℕ) (c : ℕ) (r : Short) : Type 0 where
+  pub is :
+      r .found ≡
+      entry (kindIn kinds c) (BaseToken.ValueTypeKeyword ⇒ true ∷ BaseToken.Identifier ⇒ true ∷ []) false
   pub starts :
       r .found ≡ true → (count : ℕ) → Starts kinds types c count (Leaf (r .kind) (r .load) (token (c + 1)) count)
 

@@ -30,7 +30,8 @@ Inv-loop kinds types node-kinds₀ node-loads₀ count unused name list₀ items
     node-loads list items place used =
     (length node-kinds ≡ length node-kinds₀) × (length node-loads ≡ length node-loads₀) ×
     Sized kinds types node-kinds node-loads place used × (past list ≤ used) × (items ≤ used) ×
-    Items kinds types unused (structural (name .0)) BaseToken.BraceRight place₀ (nodes node-kinds₀ node-loads₀ used₀) list items place
+    Items kinds types unused (structural (name .0)) BaseToken.BraceRight place₀
+    (nodes node-kinds₀ node-loads₀ used₀) list items place
     (nodes node-kinds node-loads used)
 
 abbrev μ-loop : rest-of-fields-lts.MeasureT-loop
@@ -42,10 +43,12 @@ next-field-requires : (t : ℕ) →
     rest-of-fields-lts.Need-next-field-requires (calls t) (rest-of-fields-at t) rest-of-fields.Post Inv-loop μ-loop
 next-field-requires t c κs = (search needs, (search needs, search needs, search needs))
 
-loop-less : (t : ℕ) → rest-of-fields-lts.Need-loop-less (calls t) (rest-of-fields-at t) rest-of-fields.Post Inv-loop μ-loop
+loop-less : (t : ℕ) →
+    rest-of-fields-lts.Need-loop-less (calls t) (rest-of-fields-at t) rest-of-fields.Post Inv-loop μ-loop
 loop-less t c = search (needs, turn-less)
 
-loop-again : (t : ℕ) → rest-of-fields-lts.Need-loop-again (calls t) (rest-of-fields-at t) rest-of-fields.Post Inv-loop μ-loop
+loop-again : (t : ℕ) →
+    rest-of-fields-lts.Need-loop-again (calls t) (rest-of-fields-at t) rest-of-fields.Post Inv-loop μ-loop
 loop-again t c = (
   search needs,
   search needs,
@@ -63,18 +66,22 @@ finish-fields-requires t c κs =
     let c₃ = c₂ .before .before .before in
     let c₄ = c₃ .before .before .before .before .before .before in
     let i = c₃ .loop .inv in (
-      list-slots _ _ _ (structural (c₄ .args .name .0)) _ _ _ _ _ _ (i .5) (c₂ .next-field .ensures) (i .2) (i .3) (i .4)
+      list-slots _ _ _ (structural (c₄ .args .name .0)) _ _ _ _ _ _ (i .5) (c₂ .next-field .ensures) (i .2) (i .3)
+          (i .4)
           (c₁ .whole .given .1),
       search (needs, list-fits),
     )
 
-returns : (t : ℕ) → rest-of-fields-lts.Need-returns (calls t) (rest-of-fields-at t) rest-of-fields.Post Inv-loop μ-loop
+returns : (t : ℕ) →
+    rest-of-fields-lts.Need-returns (calls t) (rest-of-fields-at t) rest-of-fields.Post Inv-loop μ-loop
 returns t c = search (needs, list-read)
 
-returns-2 : (t : ℕ) → rest-of-fields-lts.Need-returns-2 (calls t) (rest-of-fields-at t) rest-of-fields.Post Inv-loop μ-loop
+returns-2 : (t : ℕ) →
+    rest-of-fields-lts.Need-returns-2 (calls t) (rest-of-fields-at t) rest-of-fields.Post Inv-loop μ-loop
 returns-2 t c = search (needs, list-refused)
 
-loop-holds : (t : ℕ) → rest-of-fields-lts.Need-loop-holds (calls t) (rest-of-fields-at t) rest-of-fields.Post Inv-loop μ-loop
+loop-holds : (t : ℕ) →
+    rest-of-fields-lts.Need-loop-holds (calls t) (rest-of-fields-at t) rest-of-fields.Post Inv-loop μ-loop
 loop-holds t c = (refl, refl, search needs, search (needs, none-fits), search needs, search (needs, first-item))
 
 pub spec : {M : Type 1} (t : ℕ) → rest-of-fields-lts.Closed (calls t) (rest-of-fields-at t) rest-of-fields.Post M

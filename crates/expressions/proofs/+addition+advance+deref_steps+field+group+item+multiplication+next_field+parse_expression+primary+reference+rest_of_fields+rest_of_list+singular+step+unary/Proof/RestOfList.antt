@@ -8,8 +8,8 @@ use Rattle.lists.specs.Answer.{ownerOf}
 use Rattle.lists.proofs.closing_of.Reads as closing-of-reads
 use Rattle.lists.proofs.finish_list.Reads as finish-list-reads
 use Rattle.nodes.proofs.start_list.Reads as start-list-reads
-use Rattle.expressions.proofs.Items.{none-fits, not-brace, Items, first-item, list-refused, list-read, list-slots}
-use Rattle.expressions.proofs.Items.{list-fits, turn-sized, turn-fits, turn-counts, turn-less, next-item}
+use Rattle.expressions.proofs.Items.{none-fits, not-brace, Items, first-item, list-refused, list-read}
+use Rattle.expressions.proofs.Items.{list-slots, list-fits, turn-sized, turn-fits, turn-counts, turn-less, next-item}
 use Rattle.expressions.proofs.rest_of_list.Reads as rest-of-list
 use Rattle.expressions.proofs.item.Reads as item
 use Rattle.expressions.proofs.+addition+advance+deref_steps+field+group+item+multiplication+next_field+parse_expression+primary+reference+rest_of_fields+rest_of_list+singular+step+unary.Lts-rest_of_list as rest-of-list-lts
