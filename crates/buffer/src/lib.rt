@@ -16,6 +16,13 @@ pub struct ParseBuffer {
     pub list: ActiveList,
 }
 
+// A node that is to be appended: its kind and its load, and the cursor that the answer has.
+pub struct Node {
+    pub kind: u8,
+    pub load: u32,
+    pub cursor: TokenId,
+}
+
 // What is answered for a node, and the record then.
 pub struct Appended {
     pub reply: Parsed,
@@ -63,23 +70,62 @@ fn after_item(buffer: ParseBuffer, reply: Listed) -> ParseBuffer
     }
 }
 
+// A node is appended, with the record by value.
+fn push(node_kinds: &mut [u8], node_loads: &mut [u32], buffer: ParseBuffer, node: Node) -> Appended
+    requires { ⌜ Slots (now «node_kinds») (now «node_loads») (buffer .count) ⌝ }
+    ensures { λ r. ⌜ Appends buffer (now («node_kinds» .entry)) (now («node_loads» .entry)) node (r .reply) (r .buffer)
+        (now («node_kinds» .exit)) (now («node_loads» .exit)) ⌝ }
+{
+    let cursor = node.cursor;
+    let reply = nodes::push(
+        node_kinds,
+        node_loads,
+        cursor,
+        buffer.count,
+        node.kind,
+        node.load,
+    );
+    let after = after_push(buffer, reply);
+    Appended {
+        reply,
+        buffer: after,
+    }
+}
+
+// An item is appended after its content, unfinished, and the one before it is patched, with the record by value.
+fn push_item(
+    node_kinds: &mut [u8],
+    node_loads: &mut [u32],
+    buffer: ParseBuffer,
+    cursor: TokenId,
+) -> Patched
+    requires { ⌜ Slots (now «node_kinds») (now «node_loads») (buffer .count) × (past (buffer .list) ≤ buffer .count) ⌝ }
+    ensures { λ r. ⌜ Patches buffer (now («node_kinds» .entry)) (now («node_loads» .entry)) cursor (r .reply) (r .buffer)
+        (now («node_kinds» .exit)) (now («node_loads» .exit)) ⌝ }
+{
+    let open = buffer.list;
+    let reply = nodes::push_list_item(node_kinds, node_loads, cursor, buffer.count, open);
+    let after = after_item(buffer, reply);
+    Patched {
+        reply,
+        buffer: after,
+    }
+}
+
 // A node is appended.
 pub fn append(
     buffer: &mut ParseBuffer,
     node_kinds: &mut [u8],
     node_loads: &mut [u32],
-    cursor: TokenId,
-    kind: u8,
-    load: u32,
+    node: Node,
 ) -> Parsed
     requires { ⌜ Slots (now «node_kinds») (now «node_loads») (now buffer .count) ⌝ }
-    ensures { λ r. ⌜ Appends (cursor .0) (now (buffer .entry)) (now («node_kinds» .entry)) (now («node_loads» .entry))
-        kind load r (now (buffer .exit)) (now («node_kinds» .exit)) (now («node_loads» .exit)) ⌝ }
+    ensures { λ r. ⌜ Appends (now (buffer .entry)) (now («node_kinds» .entry)) (now («node_loads» .entry)) node r
+        (now (buffer .exit)) (now («node_kinds» .exit)) (now («node_loads» .exit)) ⌝ }
 {
-    let before = *buffer;
-    let reply = nodes::push(node_kinds, node_loads, cursor, before.count, kind, load);
-    *buffer = after_push(before, reply);
-    reply
+    let appended = push(node_kinds, node_loads, *buffer, node);
+    *buffer = appended.buffer;
+    appended.reply
 }
 
 // An item is appended after its content, unfinished, and the one before it is patched.
@@ -91,30 +137,27 @@ pub fn patch(
 ) -> Listed
     requires { ⌜ Slots (now «node_kinds») (now «node_loads») (now buffer .count)
         × (past (now buffer .list) ≤ now buffer .count) ⌝ }
-    ensures { λ r. ⌜ Patches (cursor .0) (now (buffer .entry)) (now («node_kinds» .entry)) (now («node_loads» .entry))
-        r (now (buffer .exit)) (now («node_kinds» .exit)) (now («node_loads» .exit)) ⌝ }
+    ensures { λ r. ⌜ Patches (now (buffer .entry)) (now («node_kinds» .entry)) (now («node_loads» .entry)) cursor r
+        (now (buffer .exit)) (now («node_kinds» .exit)) (now («node_loads» .exit)) ⌝ }
 {
-    let before = *buffer;
-    let reply = nodes::push_list_item(node_kinds, node_loads, cursor, before.count, before.list);
-    *buffer = after_item(before, reply);
-    reply
+    let patched = push_item(node_kinds, node_loads, *buffer, cursor);
+    *buffer = patched.buffer;
+    patched.reply
 }
 
 // A node is appended with a record that is passed and returned by value.
 pub fn append_to(
     node_kinds: &mut [u8],
     node_loads: &mut [u32],
-    cursor: TokenId,
     buffer: ParseBuffer,
-    kind: u8,
-    load: u32,
+    node: Node,
 ) -> Appended
     requires { ⌜ Slots (now «node_kinds») (now «node_loads») (buffer .count) ⌝ }
-    ensures { λ r. ⌜ Appends (cursor .0) buffer (now («node_kinds» .entry)) (now («node_loads» .entry))
-        kind load (r .reply) (r .buffer) (now («node_kinds» .exit)) (now («node_loads» .exit)) ⌝ }
+    ensures { λ r. ⌜ Appends buffer (now («node_kinds» .entry)) (now («node_loads» .entry))
+        node (r .reply) (r .buffer) (now («node_kinds» .exit)) (now («node_loads» .exit)) ⌝ }
 {
     let mut lent = buffer;
-    let reply = append(&mut lent, node_kinds, node_loads, cursor, kind, load);
+    let reply = append(&mut lent, node_kinds, node_loads, node);
     Appended {
         reply,
         buffer: lent,
@@ -125,12 +168,12 @@ pub fn append_to(
 pub fn patch_in(
     node_kinds: &mut [u8],
     node_loads: &mut [u32],
-    cursor: TokenId,
     buffer: ParseBuffer,
+    cursor: TokenId,
 ) -> Patched
     requires { ⌜ Slots (now «node_kinds») (now «node_loads») (buffer .count) × (past (buffer .list) ≤ buffer .count) ⌝ }
-    ensures { λ r. ⌜ Patches (cursor .0) buffer (now («node_kinds» .entry)) (now («node_loads» .entry))
-        (r .reply) (r .buffer) (now («node_kinds» .exit)) (now («node_loads» .exit)) ⌝ }
+    ensures { λ r. ⌜ Patches buffer (now («node_kinds» .entry)) (now («node_loads» .entry))
+        cursor (r .reply) (r .buffer) (now («node_kinds» .exit)) (now («node_loads» .exit)) ⌝ }
 {
     let mut lent = buffer;
     let reply = patch(&mut lent, node_kinds, node_loads, cursor);

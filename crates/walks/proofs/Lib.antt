@@ -1,3 +1,5 @@
 pub mod Operands
 pub mod Lent
+pub mod Plain
+pub mod Told
 pub mod Whole

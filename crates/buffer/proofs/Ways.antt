@@ -1,0 +1,73 @@
+-- append and patch, and the functions with the record by value, as `Held.antt` has what they differ in.
+use Prim.Native.Nat.{_≤_}
+use Rattle.walks.proofs.Plain.{Plain, Pair, struct, enum}
+use denote.Struct.Laws as LL
+use Rattle.codes.proofs.TokenId as I
+use Rattle.codes.proofs.TokenId.Laws as I′
+use Rattle.codes.proofs.Parsed as A
+use Rattle.codes.proofs.Parsed.Laws as A′
+use Rattle.nodes.proofs.Listed as L
+use Rattle.nodes.proofs.Listed.Laws as L′
+use Rattle.nodes.specs.Answer.{Slots, past}
+use Rattle.buffer.specs.Answer.{Appends, Patches}
+use Rattle.buffer.proofs.Node as N
+use Rattle.buffer.proofs.Node.Laws as N′
+use Rattle.buffer.proofs.Appended as X
+use Rattle.buffer.proofs.Appended.Laws as X′
+use Rattle.buffer.proofs.Patched as Y
+use Rattle.buffer.proofs.Patched.Laws as Y′
+use Rattle.buffer.proofs.Held.{Way, B}
+
+abbrev parsed : Plain
+parsed = enum A.the-type A′.the-laws tt A′.the-plain A′.the-copy
+
+abbrev listed : Plain
+listed = enum L.the-type L′.the-laws tt L′.the-plain L′.the-copy
+
+abbrev appended : Pair parsed B
+appended = record {
+  name = X.the-type .name;
+  row = X.the-row;
+  fst = λ s. s .reply;
+  snd = λ s. s .buffer;
+  make = λ r b. record { reply = r; buffer = b };
+  made = λ r b Q e. e;
+  tells = LL.tells X.the-type X′.the-laws;
+  parts = λ s vs is. (LL.owed X.the-type X′.the-laws s vs is .0, LL.owed X.the-type X′.the-laws s vs is .1 .0);
+  whole = λ r b is is′. LL.owes X.the-type X′.the-laws (record { reply = r; buffer = b }) (is, (is′, tt));
+  typed = struct X.the-type X′.the-laws X′.the-plain X′.the-copy .typed;
+  makes = struct X.the-type X′.the-laws X′.the-plain X′.the-copy .makes;
+}
+
+abbrev patched : Pair listed B
+patched = record {
+  name = Y.the-type .name;
+  row = Y.the-row;
+  fst = λ s. s .reply;
+  snd = λ s. s .buffer;
+  make = λ r b. record { reply = r; buffer = b };
+  made = λ r b Q e. e;
+  tells = LL.tells Y.the-type Y′.the-laws;
+  parts = λ s vs is. (LL.owed Y.the-type Y′.the-laws s vs is .0, LL.owed Y.the-type Y′.the-laws s vs is .1 .0);
+  whole = λ r b is is′. LL.owes Y.the-type Y′.the-laws (record { reply = r; buffer = b }) (is, (is′, tt));
+  typed = struct Y.the-type Y′.the-laws Y′.the-plain Y′.the-copy .typed;
+  makes = struct Y.the-type Y′.the-laws Y′.the-plain Y′.the-copy .makes;
+}
+
+abbrev pub appending : Way
+appending = record {
+  node = struct N.the-type N′.the-laws N′.the-plain N′.the-copy;
+  answer = parsed;
+  step = appended;
+  Asks = λ b ks ls n. Slots ks ls (b .count);
+  Gives = λ b ks ls n r b′ ks′ ls′. Appends b ks ls n r b′ ks′ ls′;
+}
+
+abbrev pub patching : Way
+patching = record {
+  node = struct I.the-type I′.the-laws I′.the-plain I′.the-copy;
+  answer = listed;
+  step = patched;
+  Asks = λ b ks ls c. Slots ks ls (b .count) × (past (b .list) ≤ b .count);
+  Gives = λ b ks ls c r b′ ks′ ls′. Patches b ks ls c r b′ ks′ ls′;
+}
