@@ -16,7 +16,7 @@ use Rattle.tokens.specs.declared.Optional.{Optional}
 use Rattle.tokens.specs.Answer.{kindIn, consumed, consuming, Taking, Optionally}
 use Rattle.tokens.proofs.Laws.{optioned}
 use Rattle.reader.specs.declared.Tokens.{Tokens}
-use Rattle.reader.specs.Answer.{moved, kindsOf, place, ending, Takes, Tries, Consumes}
+use Rattle.reader.specs.Answer.{moved, kindsOf, place, ending, Takes, Tries, Expects, Consumes}
 
 -- the next token has a number
 pub next-fits : {c : ℕ} → c ≤ Most.Tokens + 1 → c + 1 < 2 ^ 32
@@ -25,12 +25,12 @@ next-fits h = omega arith
 pub more : {c : ℕ} → c ≤ Most.Tokens → c ≤ Most.Tokens + 1
 more h = omega arith
 
--- the token is taken, of the kind expected or not
-pub consumes :
-    (t : Tokens) {k n : ℕ} {r : Consumed} → Quiet consumed (consuming k) (kindsOf t) (place t) n r →
-    Consumes t k n r (moved t (token (place t + 1)))
+-- the cursor goes on by one, whether the token is of the kind expected or not
+pub expects :
+    {ks : List ℕ} (k : ℕ) {n c : ℕ} {r : Consumed} → Quiet consumed (consuming k) ks c n r →
+    Expects ks k n c (record { answer = r; cursor = token (c + 1) })
 unfolding consume
-consumes t e = record { reader = refl; answer = e }
+expects k e = record { answer = e; cursor = refl }
 
 -- a token is looked at, and then taken
 pub peeked :

@@ -1,3 +1,6 @@
+pub mod Forms
 pub mod Held
 pub mod Laws
 pub mod Made
+pub mod Moves
+pub mod Ways

@@ -6,7 +6,7 @@ ghost use Prim.Native.Nat.{_+_, _≤_};
 ghost use Rattle.rules.specs.Codes.Limit as Most;
 ghost use Rattle.codes.specs.Answer.{Quiet};
 ghost use Rattle.tokens.specs.Answer.{kindIn, consumed, Taking};
-ghost use Rattle.reader.specs.Answer.{kindsOf, place, ending, Takes, Tries, Consumes};
+ghost use Rattle.reader.specs.Answer.{kindsOf, place, ending, Takes, Tries, Expects, Consumes};
 use codes::BaseToken;
 use codes::TokenId;
 use tokens::Consumed;
@@ -17,6 +17,25 @@ pub struct Tokens<'a> {
     pub kinds: &'a [u8],
     pub types: &'a [u8],
     pub cursor: TokenId,
+}
+
+// What is answered for a token that is expected, and the cursor after it.
+pub struct Expecting {
+    pub answer: Consumed,
+    pub cursor: TokenId,
+}
+
+// The token at the cursor is taken, and refused where it is not of the kind expected, with the cursor by value. The
+// answer has the node count.
+fn consume_at(kinds: &[u8], cursor: TokenId, count: u32, expected: u8) -> Expecting
+    requires { ⌜ cursor .0 ≤ Most.Tokens + 1 ⌝ }
+    ensures { λ r. ⌜ Expects (now (kinds .entry)) expected count (cursor .0) r ⌝ }
+{
+    let answer = tokens::consume(kinds, cursor, count, expected);
+    Expecting {
+        answer,
+        cursor: TokenId(cursor.0 + 1),
+    }
 }
 
 // A reader of the row from the cursor on.
@@ -52,9 +71,9 @@ pub fn consume<'s, 'a>(tokens: &'s mut Tokens<'a>, count: u32, expected: u8) -> 
     requires { ⌜ place (now tokens) ≤ Most.Tokens + 1 ⌝ }
     ensures { λ r. ⌜ Consumes (now (tokens .entry)) expected count r (now (tokens .exit)) ⌝ }
 {
-    let consumed = tokens::consume(tokens.kinds, tokens.cursor, count, expected);
-    tokens.cursor = TokenId(tokens.cursor.0 + 1);
-    consumed
+    let expecting = consume_at(tokens.kinds, tokens.cursor, count, expected);
+    tokens.cursor = expecting.cursor;
+    expecting.answer
 }
 
 // The token at the cursor is taken where it is of the kind expected.

@@ -1,3 +1,4 @@
+pub mod Extra
 pub mod Operands
 pub mod Lent
 pub mod Plain
