@@ -12,7 +12,7 @@ use contract.Monad.{fact}
 use denote.Builtin.{u8, u32}
 use denote.Exit.{yes}
 use denote.Ref.{RefT, now}
-use denote.Signature.{Slot, plain, mutRefTo, mutSliceOf}
+use denote.Signature.{plain, mutRefTo, mutSliceOf}
 use denote.Slice.{sliceVal}
 use denote.Struct.Laws as LL
 use denote.Triple.Clauses.{Ended, Clauses, closing}

@@ -1,17 +1,18 @@
--- take, consume_optional and consume, as `Forms.antt` has what they differ in.
-use mathlib.Core.Path.{refl, ap}
+-- peek, take, consume_optional and consume, as `Forms.antt` has what they differ in.
+use mathlib.Core.Path.{_≡_, refl, ap}
 use mir.Syntax.{w8, w32}
-use Rattle.walks.proofs.Extra.{Extra, none, one, two}
+use Rattle.walks.proofs.Extra.{none, one, two}
 use Rattle.walks.proofs.Plain.{Plain, Pair, number, truth, struct, enum}
 use denote.Struct.Laws as LL
-use Rattle.tokens.specs.Answer.{Taking, Optionally}
+use Rattle.tokens.specs.Answer.{kindIn, Taking, Optionally}
 use Rattle.tokens.proofs.Consumed as C
 use Rattle.tokens.proofs.Consumed.Laws as C′
 use Rattle.tokens.proofs.Taken as K
 use Rattle.tokens.proofs.Taken.Laws as K′
 use Rattle.tokens.proofs.Optional as O
 use Rattle.tokens.proofs.Optional.Laws as O′
-use Rattle.reader.specs.Answer.{moved, Takes, Tries, Expects, Consumes}
+use Rattle.reader.specs.declared.Tokens.{Tokens}
+use Rattle.reader.specs.Answer.{moved, kindsOf, place, Looks, Takes, Tries, Expects, Consumes}
 use Rattle.reader.proofs.Expecting as X
 use Rattle.reader.proofs.Expecting.Laws as X′
 use Rattle.reader.proofs.Forms.{Way, cursor}
@@ -64,6 +65,16 @@ expected = record {
   makes = struct X.the-type X′.the-laws X′.the-plain X′.the-copy .makes;
 }
 
+abbrev pub peeking : Way none
+peeking = record {
+  answer = number w8;
+  step = taken;
+  Says = λ ks c x s. Looks ks c s;
+  Gives = λ h x k h′. (k ≡ kindIn (kindsOf h) (place h)) × (h′ ≡ h);
+  so = λ h x s e. (e .kind, ap (moved h) (e .cursor));
+  back = λ h x k h′ e. record { kind = e .0; cursor = ap (λ (t : Tokens). t .cursor) (e .1) };
+}
+
 abbrev pub taking : Way none
 taking = record {
   answer = number w8;
@@ -71,6 +82,7 @@ taking = record {
   Says = λ ks c x s. Taking ks (c .0) s;
   Gives = λ h x k h′. Takes h k h′;
   so = λ h x s e. record { row = refl; taken = e };
+  back = λ h x k h′ e. e .taken;
 }
 
 abbrev pub trying : Way (one (number w8))
@@ -80,6 +92,7 @@ trying = record {
   Says = λ ks c k s. Optionally ks k (c .0) s;
   Gives = λ h k b h′. Tries h k b h′;
   so = λ h x s e. record { row = refl; tried = e };
+  back = λ h x b h′ e. e .tried;
 }
 
 -- the node count, and the kind expected
@@ -90,4 +103,5 @@ expecting = record {
   Says = λ ks c x s. Expects ks (x .1) (x .0) (c .0) s;
   Gives = λ h x r h′. Consumes h (x .1) (x .0) r h′;
   so = λ h x s e. record { reader = ap (moved h) (e .cursor); answer = e .answer };
+  back = λ h x r h′ e. record { answer = e .answer; cursor = ap (λ (t : Tokens). t .cursor) (e .reader) };
 }

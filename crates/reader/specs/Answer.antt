@@ -10,7 +10,8 @@ use Rattle.rules.specs.Reading.{Row, Rule, consume, optional, _>>=_}
 use Rattle.codes.specs.declared.TokenId.{TokenId}
 use Rattle.codes.specs.Answer.{Quiet, token, row}
 use Rattle.tokens.specs.declared.Consumed.{Consumed}
-use Rattle.tokens.specs.Answer.{Taking, Optionally, consumed, consuming}
+use Rattle.tokens.specs.declared.Taken.{Taken}
+use Rattle.tokens.specs.Answer.{kindIn, Taking, Optionally, consumed, consuming}
 use Rattle.reader.specs.declared.Expecting.{Expecting}
 use Rattle.reader.specs.declared.Tokens.{Tokens}
 
@@ -24,6 +25,11 @@ kindsOf t = now (t .kinds)
 
 abbrev pub place : Tokens → ℕ
 place t = t .cursor .0
+
+-- a token is looked at: its kind, and the same cursor
+pub record Looks (ks : List ℕ) (c : TokenId) (r : Taken) : Type 0 where
+  pub kind : r .kind ≡ kindIn ks (c .0)
+  pub cursor : r .cursor ≡ c
 
 -- a token is taken: r is its kind, and t′ the reader after it
 pub record Takes (t : Tokens) (r : ℕ) (t′ : Tokens) : Type 0 where
