@@ -16,12 +16,12 @@ use prog.Wp.{Heap, Calls, Loops, WpFn, Tables}
 use ghost.Atoms.{Atoms}
 use contract.Monad.{fact}
 use types.Kit.{Given, Item, ‵, raw, some, later, _⊛_, ⋆, _$_, _∵_, !, qed, by, move, keep, drop, use1, use3, split, join}
-use types.Kit.{pick, rewrite, fsplit, fsplit3, fjoin, fjoin3, feqL, feqI, suffices, frame, await, done}
-use types.Part.{agg, whole, sub, look-in}
-use types.Run.{look, init, store, stop, hop, fld, from, load, addr, of-opd, and-then, no-more, assigns, land}
+use types.Kit.{pick, rewrite, fsplit, fsplit3, fjoin, fjoin3, feqI, suffices, frame, await, done}
+use types.Part.{whole, sub, look-in}
+use types.Run.{look, init, store, stop, hop, fld, from, load, of-opd, and-then, no-more, assigns, land}
 use types.Run.{returns, enter, alloc1, alloc0, params1, pass1, pass0, free0}
 use types.SemTy.{Body}
-use sound.WpLaws.{FmC, fmOf, WpFn-mono}
+use sound.WpLaws.{FmC, fmOf}
 use denote.RattleType.{owns}
 use denote.Laws.{Is, shows}
 use denote.Memory.{mem, pointee}
@@ -35,15 +35,16 @@ use denote.Triple.Call.{calls-at}
 use denote.Triple.Clauses.{ensured, lasts, Lasts}
 use denote.Triple.Entry.{Args, Vals, onEntry}
 use denote.Triple.Walked.{says, needs, Stays, stay-ref, stay-none, gave-slice, walkOf, goes-ref, goes-none}
-use denote.Triple.Walked.{goes-gave-slice, Walks, ends-at, walked, walk-meets}
+use denote.Triple.Walked.{goes-gave-slice, ends-at}
 use denote.Exit.{yes}
 use Rattle.walks.proofs.Operands.{itself, local, gone}
 use Rattle.walks.proofs.Plain.{last, silent, mirOf}
 use Rattle.walks.proofs.Whole.{opens-whole, closes-whole}
+use Rattle.walks.proofs.Told.{by-walk}
 use Rattle.buffer.specs.declared.ParseBuffer.{ParseBuffer}
 use Rattle.buffer.proofs.ParseBuffer as P
 use Rattle.buffer.proofs.ParseBuffer.Laws as P′
-use Rattle.buffer.proofs.Held.{buffer, B, column, Way, passed, passed-clauses, Passed, lent, lent-clauses, Lent}
+use Rattle.buffer.proofs.Held.{buffer, B, column, relends, lasting, Way, passed, passed-clauses, Passed, lent, lent-clauses, Lent}
 
 module _ (Y : Way) (#core : Name) where
   -- the code of such a function, which calls #core
@@ -189,16 +190,10 @@ module _ (Y : Way) (#core : Name) where
             opens-whole ! tt buffer h b o (λ was.
             -- [the record's cell; what it owns; the open borrow; obs; auth; the columns' tokens; what the other
             -- parameters own; _10; …; _9; …; _8; …; _7; …; _6; …; _5; …; _4; …; _3; …; _2; …; _1; …; room for _0; …]
-            assigns ! (addr ! (from ! (fld ! refl (hop ! (look-in ! 23 (sub ! 0 refl (whole !))) (stop !)))))
-            (itself !) (init ! 15 refl (tt, tt)) $
-            assigns ! (agg ! (and-then ! (local ! 15 refl) (and-then ! (load ! (from ! (fld ! refl (stop !)))
-            (look-in ! 23 (sub ! 1 refl (whole !)))) (no-more !)))) (itself !)
-            (init ! 13 refl (mut-slice-lawful 𝓤 H A W (named 1) κ₁ u8 .typed ks _ ks-is .0)) $
-            assigns ! (addr ! (from ! (fld ! refl (hop ! (look-in ! 21 (sub ! 0 refl (whole !))) (stop !)))))
-            (itself !) (init ! 11 refl (tt, tt)) $
-            assigns ! (agg ! (and-then ! (local ! 11 refl) (and-then ! (load ! (from ! (fld ! refl (stop !)))
-            (look-in ! 21 (sub ! 1 refl (whole !)))) (no-more !)))) (itself !)
-            (init ! 9 refl (mut-slice-lawful 𝓤 H A W (named 2) κ₂ u32 .typed ls _ ls-is .0)) $
+            relends ! ks 23 15 13 refl refl refl refl refl refl refl refl (mut-slice-lawful 𝓤 H A W (named 1) κ₁ u8 .typed
+            ks _ ks-is .0) $
+            relends ! ls 21 11 9 refl refl refl refl refl refl refl refl (mut-slice-lawful 𝓤 H A W (named 2) κ₂ u32 .typed
+            ls _ ls-is .0) $
             assigns ! (of-opd ! (load ! (from ! (hop ! (look ! 25 refl) (stop !))) (look ! 0 refl))) (itself !)
             (init ! 7 refl (B .typed 𝓤 H A W h _ was)) $
             move ! (6 ∷ []) $ fsplit ! $ move ! (1 ∷ []) $ fsplit ! $ move ! (2 ∷ 0 ∷ 8 ∷ []) $
@@ -212,8 +207,7 @@ module _ (Y : Way) (#core : Name) where
             await ! tt $ pick ! (λ s. split ! $ move ! (1 ∷ []) $
             use1 W (some (λ (ws : Last). ‵ (lasts (passed Y) (κ₁, (κ₂, tt)) given ws) ⊛ raw (fact 𝓤 (Said s ws))))
             (id⊢ 𝓤 _) $ pick ! (λ ws. split ! $ move ! (1 ∷ []) $ heard ! (Said s ws) (λ e.
-            fsplit ! $ fsplit ! $ move ! (1 ∷ []) $ feqL ! (λ m₁. move ! (1 ∷ []) $
-            fsplit ! $ fsplit ! $ move ! (1 ∷ []) $ feqL ! (λ m₂. move ! (3 ∷ []) $ split ! $ move ! (1 ∷ []) $
+            lasting ! (λ m₁ m₂. move ! (3 ∷ []) $ split ! $ move ! (1 ∷ []) $
             -- [what the callee gives; the columns' tokens; the loads' last list; …; the kinds'; what the node owns; the
             -- record's cell; what it owns; the open borrow; obs; auth; _10; …]
             peeks ! (Y .step .row) (Is (Y .step .row)) (shows 𝓤 H A (Y .step .row)) s (u ∷ []) (λ is.
@@ -236,12 +230,21 @@ module _ (Y : Way) (#core : Name) where
             gone ! 13 refl refl $ gone ! 11 refl refl $ gone ! 9 refl refl $ free0 ! $
             keep ! (0 ∷ 1 ∷ 2 ∷ 3 ∷ 4 ∷ 6 ∷ 7 ∷ []) $
             by ! (exits (Y .step .fst s) (Y .step .snd s) (ws .0) (ws .1 .0) e m₁ m₂ (Y .step .parts s _ is
-            .0)))))))))))))))))))))
+            .0))))))))))))))))))))
 
   module _ {M : Type 1} (𝓤 : URA M) (H : Heap 𝓤) (A : Atoms 𝓤) (W : Given 𝓤 H A) where
-    walks : (C : Calls 𝓤 H) (Λ : Loops 𝓤 H) → FmC 𝓤 H (W .laws) C → Triple 𝓤 (C #core) (Passed Y 𝓤 H A) →
-        Walks 𝓤 H A (lent Y) stayed (WpFn 𝓤 H C Λ function) (lent-clauses Y 𝓤)
-    walks C Λ fm known = walked 𝓤 H A (lent Y) stayed (lent-clauses Y 𝓤) (WpFn 𝓤 H C Λ function)
+    pub changes : (𝓣 : Tables 𝓤 H) → Triple 𝓤 (𝓣 .C #core) (Passed Y 𝓤 H A) →
+        Triple 𝓤 (WpFn 𝓤 H (𝓣 .C) (𝓣 .Λ) function) (Lent Y 𝓤 H A)
+    changes 𝓣 known = by-walk 𝓤 H A W (lent Y) stayed (lent-clauses Y 𝓤) function 𝓣 (
+      goes-ref 𝓤 H A W 3 0 tt (plain (λ _. P.the-row)),
+      (
+        goes-gave-slice 𝓤 H A W 3 1 tt (plain (λ _. u8)),
+        (
+          goes-gave-slice 𝓤 H A W 3 2 tt (plain (λ _. u32)),
+          (goes-none 𝓤 H A W 3 (λ _. Y .node .row) yes (λ κs. silent (Y .node) yes), tt),
+        ),
+      ),
+    )
         (λ κs. (ptr-vals, (slice-vals, (slice-vals, ((λ m. Y .node .val m ∷ []), tt)))))
         (λ κs. (
           mut-tells (named 0) (κs .0) P.the-row,
@@ -252,19 +255,4 @@ module _ (Y : Way) (#core : Name) where
         ))
         (λ κs qs bounds a g are. needs 𝓤 _ _ (λ asks.
         walk 𝓤 H A W (κs .0) (κs .1 .0) (κs .1 .1 .0) (qs .0) (qs .1 .0) (qs .1 .1 .0) (a .0) (a .1 .0) (a .1 .1 .0)
-        (a .1 .1 .1 .0) (are .1 .1 .1 .0) asks C Λ fm known (are .1 .0) (are .1 .1 .0)))
-
-    pub changes : (𝓣 : Tables 𝓤 H) → Triple 𝓤 (𝓣 .C #core) (Passed Y 𝓤 H A) →
-        Triple 𝓤 (WpFn 𝓤 H (𝓣 .C) (𝓣 .Λ) function) (Lent Y 𝓤 H A)
-    changes 𝓣 known = walk-meets 𝓤 H A (lent Y) stayed W (
-      goes-ref 𝓤 H A W 3 0 tt (plain (λ _. P.the-row)),
-      (
-        goes-gave-slice 𝓤 H A W 3 1 tt (plain (λ _. u8)),
-        (
-          goes-gave-slice 𝓤 H A W 3 2 tt (plain (λ _. u32)),
-          (goes-none 𝓤 H A W 3 (λ _. Y .node .row) yes (λ κs. silent (Y .node) yes), tt),
-        ),
-      ),
-    )
-        (lent-clauses Y 𝓤) (WpFn 𝓤 H (𝓣 .C) (𝓣 .Λ) function) (WpFn-mono 𝓤 H (W .laws) 𝓣 function)
-        (walks (𝓣 .C) (𝓣 .Λ) (fmOf 𝓤 H (W .laws) 𝓣) known)
+        (a .1 .1 .1 .0) (are .1 .1 .1 .0) asks (𝓣 .C) (𝓣 .Λ) (fmOf 𝓤 H (W .laws) 𝓣) known (are .1 .0) (are .1 .1 .0)))

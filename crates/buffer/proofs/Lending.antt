@@ -17,11 +17,11 @@ use ghost.Atoms.{Atoms}
 use contract.Lifetimes.{Lfts}
 use contract.Monad.{fact}
 use types.Kit.{Given, Item, ‵, raw, some, later, _⊛_, ⋆, _$_, _∵_, !, qed, by, move, keep, use1, use2, use3, split}
-use types.Kit.{join, pick, rewrite, fsplit, fjoin, feqL, suffices, frame, await, done}
-use types.Part.{agg, whole, sub, look-in}
-use types.Run.{look, init, forget, stop, hop, fld, from, load, addr, of-opd, and-then, no-more, assigns, land}
+use types.Kit.{join, pick, rewrite, fsplit, fjoin, suffices, frame, await, done}
+use types.Part.{agg, whole}
+use types.Run.{look, init, forget, addr, of-opd, and-then, no-more, assigns, land}
 use types.Run.{returns, enter, alloc1, alloc0, params1, pass1, pass0, free1, free0}
-use sound.WpLaws.{FmC, fmOf, WpFn-mono}
+use sound.WpLaws.{FmC, fmOf}
 use denote.RattleType.{owns}
 use denote.Laws.{Is, shows}
 use denote.Memory.{pointee}
@@ -35,16 +35,17 @@ use denote.Triple.Call.{calls-at}
 use denote.Triple.Clauses.{ensured, lasts, Lasts}
 use denote.Triple.Entry.{Args, Vals, onEntry}
 use denote.Triple.Walked.{says, needs, Stays, stay-none, gave-slice, walkOf, goes-none}
-use denote.Triple.Walked.{goes-gave-slice, Walks, ends-at, walked, walk-meets}
+use denote.Triple.Walked.{goes-gave-slice, ends-at}
 use denote.Exit.{yes}
 use Rattle.walks.proofs.Lent.{ref, Ref, Lent as Loaned, lends, comes-back}
 use Rattle.walks.proofs.Operands.{itself, local, gone}
 use Rattle.walks.proofs.Plain.{last, silent, sure, mirOf, valOf}
 use Rattle.walks.proofs.Whole.{Cell, Own}
+use Rattle.walks.proofs.Told.{by-walk}
 use Rattle.buffer.specs.declared.ParseBuffer.{ParseBuffer}
 use Rattle.buffer.proofs.ParseBuffer as P
 use Rattle.buffer.proofs.ParseBuffer.Laws as P′
-use Rattle.buffer.proofs.Held.{buffer, B, column, Way, passed, passed-clauses, Passed, lent, lent-clauses, Lent}
+use Rattle.buffer.proofs.Held.{buffer, B, column, relends, lasting, Way, passed, passed-clauses, Passed, lent, lent-clauses, Lent}
 
 module _ (Y : Way) (#core : Name) where
   -- the code of such a function, which calls #core
@@ -178,16 +179,10 @@ module _ (Y : Way) (#core : Name) where
           pass1 ! (init ! 16 refl (Y .node .typed 𝓤 H A W n _ n-is)) $ pass0 ! $
           assigns ! (of-opd ! (local ! 18 refl)) (itself !) (init ! 14 refl (B .typed 𝓤 H A W h _ h-is)) $
           assigns ! (addr ! (itself !)) (itself !) (init ! 10 refl (tt, tt)) $
-          assigns ! (addr ! (from ! (fld ! refl (hop ! (look-in ! 22 (sub ! 0 refl (whole !))) (stop !)))))
-          (itself !) (init ! 8 refl (tt, tt)) $
-          assigns ! (agg ! (and-then ! (local ! 8 refl) (and-then ! (load ! (from ! (fld ! refl (stop !)))
-          (look-in ! 22 (sub ! 1 refl (whole !)))) (no-more !)))) (itself !)
-          (init ! 6 refl (mut-slice-lawful 𝓤 H A W (named 0) κ₁ u8 .typed ks _ ks-is .0)) $
-          assigns ! (addr ! (from ! (fld ! refl (hop ! (look-in ! 20 (sub ! 0 refl (whole !))) (stop !)))))
-          (itself !) (init ! 4 refl (tt, tt)) $
-          assigns ! (agg ! (and-then ! (local ! 4 refl) (and-then ! (load ! (from ! (fld ! refl (stop !)))
-          (look-in ! 20 (sub ! 1 refl (whole !)))) (no-more !)))) (itself !)
-          (init ! 2 refl (mut-slice-lawful 𝓤 H A W (named 1) κ₂ u32 .typed ls _ ls-is .0)) $
+          relends ! ks 22 8 6 refl refl refl refl refl refl refl refl (mut-slice-lawful 𝓤 H A W (named 0) κ₁ u8 .typed ks _
+          ks-is .0) $
+          relends ! ls 20 4 2 refl refl refl refl refl refl refl refl (mut-slice-lawful 𝓤 H A W (named 1) κ₂ u32 .typed ls
+          _ ls-is .0) $
           -- the record is lent
           owned ! P.the-row (Is P.the-row) (B .makes 𝓤 H A W) h _ h-is $ move ! (15 ∷ 0 ∷ []) $
           use2 W (later (some (λ (ν : ℕ). some (λ (γ : GName). Loaned buffer l₅ 𝓤 H A W h ν γ)))) (lends buffer l₅ 𝓤 H
@@ -205,8 +200,7 @@ module _ (Y : Way) (#core : Name) where
           (id⊢ 𝓤 _) $ await ! tt $ pick ! (λ r. split ! $ move ! (1 ∷ []) $
           use1 W (some (λ (ws : Last l₅ ν γ). ‵ (lasts (lent Y) (lfts l₅ ν γ) (given l₅ ν γ) ws) ⊛ raw (fact 𝓤 (Said l₅
           ν γ r ws)))) (id⊢ 𝓤 _) $ pick ! (λ ws. split ! $ move ! (1 ∷ []) $ heard ! (Said l₅ ν γ r ws) (λ e.
-          fsplit ! $ move ! (1 ∷ []) $ fsplit ! $ fsplit ! $ move ! (1 ∷ []) $ feqL ! (λ m₁. move ! (1 ∷ []) $
-          fsplit ! $ fsplit ! $ move ! (1 ∷ []) $ feqL ! (λ m₂. move ! (4 ∷ []) $ split ! $ split ! $
+          fsplit ! $ move ! (1 ∷ []) $ lasting ! (λ m₁ m₂. move ! (4 ∷ []) $ split ! $ split ! $
           -- [its lifetime's token; the tokens; the answer; the loads' last list; …; the kinds'; res; what the other
           -- parameters own; the loan; _12; …]
           move ! (0 ∷ 8 ∷ 6 ∷ []) $ use3 W (later (‵ (Cell buffer fullShare (ws .0) l₅ 0) ⊛ ‵ (Own buffer (ws .0))))
@@ -230,24 +224,12 @@ module _ (Y : Way) (#core : Name) where
           gone ! 17 refl refl $ gone ! 15 refl refl $ gone ! 13 refl refl $ gone ! 11 refl refl $
           gone ! 9 refl refl $ gone ! 7 refl refl $ free0 ! $ keep ! (2 ∷ 3 ∷ 5 ∷ 6 ∷ []) $
           by ! (exits r (ws .0) (ws .1 .0) (ws .1 .1 .0) e m₁ m₂ (Y .step .whole r (ws .0) (sure (Y .answer) r _ is)
-          is′)))))))))))))))))))))))))
+          is′))))))))))))))))))))))))
 
   module _ {M : Type 1} (𝓤 : URA M) (H : Heap 𝓤) (A : Atoms 𝓤) (W : Given 𝓤 H A) where
-    walks : (C : Calls 𝓤 H) (Λ : Loops 𝓤 H) → FmC 𝓤 H (W .laws) C → Triple 𝓤 (C #core) (Lent Y 𝓤 H A) →
-        Walks 𝓤 H A (passed Y) stayed (WpFn 𝓤 H C Λ function) (passed-clauses Y 𝓤)
-    walks C Λ fm known = walked 𝓤 H A (passed Y) stayed (passed-clauses Y 𝓤) (WpFn 𝓤 H C Λ function)
-        (λ κs. (slice-vals, (slice-vals, ((λ b. B .val b ∷ []), ((λ m. Y .node .val m ∷ []), tt)))))
-        (λ κs. (
-          mut-slice-tells (named 0) (κs .0) u8,
-          (mut-slice-tells (named 1) (κs .1 .0) u32, (B .tells, (Y .node .tells, tt))),
-        ))
-        (λ κs qs bounds a g are. needs 𝓤 _ _ (λ asks.
-        walk 𝓤 H A W (κs .0) (κs .1 .0) (qs .0) (qs .1 .0) (a .0) (a .1 .0) (a .1 .1 .0) (a .1 .1 .1 .0)
-        (are .1 .1 .0) (are .1 .1 .1 .0) asks C Λ fm known (are .0) (are .1 .0)))
-
     pub returned : (𝓣 : Tables 𝓤 H) → Triple 𝓤 (𝓣 .C #core) (Lent Y 𝓤 H A) →
         Triple 𝓤 (WpFn 𝓤 H (𝓣 .C) (𝓣 .Λ) function) (Passed Y 𝓤 H A)
-    returned 𝓣 known = walk-meets 𝓤 H A (passed Y) stayed W (
+    returned 𝓣 known = by-walk 𝓤 H A W (passed Y) stayed (passed-clauses Y 𝓤) function 𝓣 (
       goes-gave-slice 𝓤 H A W 2 0 tt (plain (λ _. u8)),
       (
         goes-gave-slice 𝓤 H A W 2 1 tt (plain (λ _. u32)),
@@ -257,5 +239,11 @@ module _ (Y : Way) (#core : Name) where
         ),
       ),
     )
-        (passed-clauses Y 𝓤) (WpFn 𝓤 H (𝓣 .C) (𝓣 .Λ) function) (WpFn-mono 𝓤 H (W .laws) 𝓣 function)
-        (walks (𝓣 .C) (𝓣 .Λ) (fmOf 𝓤 H (W .laws) 𝓣) known)
+        (λ κs. (slice-vals, (slice-vals, ((λ b. B .val b ∷ []), ((λ m. Y .node .val m ∷ []), tt)))))
+        (λ κs. (
+          mut-slice-tells (named 0) (κs .0) u8,
+          (mut-slice-tells (named 1) (κs .1 .0) u32, (B .tells, (Y .node .tells, tt))),
+        ))
+        (λ κs qs bounds a g are. needs 𝓤 _ _ (λ asks.
+        walk 𝓤 H A W (κs .0) (κs .1 .0) (qs .0) (qs .1 .0) (a .0) (a .1 .0) (a .1 .1 .0) (a .1 .1 .1 .0)
+        (are .1 .1 .0) (are .1 .1 .1 .0) asks (𝓣 .C) (𝓣 .Λ) (fmOf 𝓤 H (W .laws) 𝓣) known (are .0) (are .1 .0)))

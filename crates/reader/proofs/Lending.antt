@@ -24,7 +24,7 @@ use types.Kit.{done}
 use types.Part.{agg, whole, sub, look-in}
 use types.Run.{Opds, look, init, forget, stop, fld, load, addr, of-opd, and-then, no-more, assigns, land, returns, enter}
 use types.Run.{alloc1, alloc0, params1, pass1, free1, free0}
-use sound.WpLaws.{FmC, fmOf, WpFn-mono}
+use sound.WpLaws.{FmC, fmOf}
 use denote.RattleType.{Denots, owns, flat}
 use denote.Laws.{Is, valss, shows}
 use denote.Memory.{pointee}
@@ -39,14 +39,15 @@ use denote.Triple.Statement.{Triple}
 use denote.Triple.Call.{calls-at}
 use denote.Triple.Clauses.{ensured, lasts as lastsOf, Lasts}
 use denote.Triple.Entry.{Args, Vals, onEntry}
-use denote.Triple.Walked.{says, Stays, stay-none, stay-none-slice, hasOf, walkOf, goes-none, goes-none-slice, Walks}
-use denote.Triple.Walked.{ends-at, walked, walk-meets}
+use denote.Triple.Walked.{says, Stays, stay-none, stay-none-slice, hasOf, walkOf, goes-none, goes-none-slice}
+use denote.Triple.Walked.{ends-at}
 use Rattle.walks.proofs.Extra as E
 use Rattle.walks.proofs.Extra.{Extra, Values, Knowns}
 use Rattle.walks.proofs.Lent.{ref, Ref, Short, Long, LentWithin, lends-within, back-within}
 use Rattle.walks.proofs.Operands.{itself, local, within, gone}
 use Rattle.walks.proofs.Plain.{mirOf, valOf, sure}
 use Rattle.walks.proofs.Whole.{Cell}
+use Rattle.walks.proofs.Told.{by-walk}
 use Rattle.rules.specs.Codes.Limit as Most
 use Rattle.codes.specs.declared.TokenId.{TokenId}
 use Rattle.codes.proofs.TokenId as I
@@ -317,9 +318,16 @@ module _ (μ : Mutability) (X : Extra) (Y : Way X) (g : Asking) (#new #f : Name)
 
   module _ {M : Type 1} (𝓤 : URA M) (H : Heap 𝓤) (A : Atoms 𝓤) (W : Given 𝓤 H A) (mem : Memory → SProp 𝓤)
       (run : Routine → Fun 𝓤) where
-    walks : (C : Calls 𝓤 H) (Λ : Loops 𝓤 H) → FmC 𝓤 H (W .laws) C → Triple 𝓤 (C #new) (New 𝓤 H A mem run) →
-        Lends X Y g W C Λ #f → Walks 𝓤 H A (plainly X Y) stayed (WpFn 𝓤 H C Λ function) (plainly-clauses X Y 𝓤 g)
-    walks C Λ fm known lends = walked 𝓤 H A (plainly X Y) stayed (plainly-clauses X Y 𝓤 g) (WpFn 𝓤 H C Λ function)
+    pub made-and-lent : (𝓣 : Tables 𝓤 H) → Triple 𝓤 (𝓣 .C #new) (New 𝓤 H A mem run) →
+        (FmC 𝓤 H (W .laws) (𝓣 .C) → Lends X Y g W (𝓣 .C) (𝓣 .Λ) #f) →
+        Triple 𝓤 (WpFn 𝓤 H (𝓣 .C) (𝓣 .Λ) function) (Plainly X Y 𝓤 H A g)
+    made-and-lent 𝓣 known lends = by-walk 𝓤 H A W (plainly X Y) stayed (plainly-clauses X Y 𝓤 g) function 𝓣 (
+      goes-none-slice 𝓤 H A W 1 (0 ∷ []) tt (plain (λ _. u8)) yes,
+      (
+        goes-none-slice 𝓤 H A W 1 (0 ∷ []) tt (plain (λ _. u8)) yes,
+        (goes-none 𝓤 H A W 1 (λ _. I.the-row) yes (λ κs x f. refl), E.goes 1 𝓤 H A W X),
+      ),
+    )
         (λ κs. (slice-vals, (slice-vals, (LL.vals I.the-type I′.the-laws, E.spells 1 κs X))))
         (λ κs. (
           shr-slice-tells (named 0) (κs .0) u8,
@@ -327,17 +335,5 @@ module _ (μ : Mutability) (X : Extra) (Y : Way X) (g : Asking) (#new #f : Name)
         ))
         (λ κs qs bounds a _ are. asked 𝓤 g (a .1 .1 .0) (λ may.
         walk 𝓤 H A W mem run (κs .0) (qs .0) (a .0) (a .1 .0) (a .1 .1 .0) (a .1 .1 .1) (E.knowns 1 κs X (a .1 .1 .1)
-        (are .1 .1 .1)) may C Λ fm known lends (are .0) (are .1 .0) (are .1 .1 .0)))
-
-    pub made-and-lent : (𝓣 : Tables 𝓤 H) → Triple 𝓤 (𝓣 .C #new) (New 𝓤 H A mem run) →
-        (FmC 𝓤 H (W .laws) (𝓣 .C) → Lends X Y g W (𝓣 .C) (𝓣 .Λ) #f) →
-        Triple 𝓤 (WpFn 𝓤 H (𝓣 .C) (𝓣 .Λ) function) (Plainly X Y 𝓤 H A g)
-    made-and-lent 𝓣 known lends = walk-meets 𝓤 H A (plainly X Y) stayed W (
-      goes-none-slice 𝓤 H A W 1 (0 ∷ []) tt (plain (λ _. u8)) yes,
-      (
-        goes-none-slice 𝓤 H A W 1 (0 ∷ []) tt (plain (λ _. u8)) yes,
-        (goes-none 𝓤 H A W 1 (λ _. I.the-row) yes (λ κs x f. refl), E.goes 1 𝓤 H A W X),
-      ),
-    )
-        (plainly-clauses X Y 𝓤 g) (WpFn 𝓤 H (𝓣 .C) (𝓣 .Λ) function) (WpFn-mono 𝓤 H (W .laws) 𝓣 function)
-        (walks (𝓣 .C) (𝓣 .Λ) (fmOf 𝓤 H (W .laws) 𝓣) known (lends (fmOf 𝓤 H (W .laws) 𝓣)))
+        (are .1 .1 .1)) may (𝓣 .C) (𝓣 .Λ) (fmOf 𝓤 H (W .laws) 𝓣) known (lends (fmOf 𝓤 H (W .laws) 𝓣)) (are .0) (are .1
+        .0) (are .1 .1 .0)))

@@ -22,7 +22,7 @@ use types.Part.{whole, sub, look-in, store-in}
 use types.Run.{look, init, stop, hop, fld, from, load, of-opd, and-then, assigns, land, returns, enter}
 use types.Run.{alloc1, alloc0, params1, pass1, free0}
 use types.SemTy.{Body}
-use sound.WpLaws.{FmC, fmOf, WpFn-mono}
+use sound.WpLaws.{FmC, fmOf}
 use denote.RattleType.{Denots, owns, flat}
 use denote.Laws.{Is, valss, shows}
 use denote.Memory.{mem, pointee}
@@ -33,12 +33,13 @@ use denote.Triple.Statement.{Triple}
 use denote.Triple.Call.{calls-at}
 use denote.Triple.Clauses.{ensured, lasts as lastsOf}
 use denote.Triple.Entry.{Args, Vals, onEntry}
-use denote.Triple.Walked.{says, needs, Stays, stay-ref, hasOf, walkOf, goes-ref, Walks, ends-at, walked, walk-meets}
+use denote.Triple.Walked.{says, needs, Stays, stay-ref, hasOf, walkOf, goes-ref, ends-at}
 use Rattle.walks.proofs.Extra as E
 use Rattle.walks.proofs.Extra.{Extra, Values, Knowns}
 use Rattle.walks.proofs.Operands.{itself, within, gone}
 use Rattle.walks.proofs.Plain.{mirOf}
 use Rattle.walks.proofs.Whole.{opens-whole}
+use Rattle.walks.proofs.Told.{by-walk}
 use Rattle.rules.specs.Codes.Limit as Most
 use Rattle.codes.proofs.TokenId.Laws as I′
 use Rattle.reader.specs.declared.Tokens.{Tokens}
@@ -217,16 +218,11 @@ module _ (X : Extra) (Y : Way X) (#core : Name) where
             by ! (exits (Y .step .fst s) (moved h (Y .step .snd s)) (gives s e) (Y .step .parts s _ is .0)))))))))))))
 
   module _ {M : Type 1} (𝓤 : URA M) (H : Heap 𝓤) (A : Atoms 𝓤) (W : Given 𝓤 H A) where
-    walks : (C : Calls 𝓤 H) (Λ : Loops 𝓤 H) → FmC 𝓤 H (W .laws) C → Triple 𝓤 (C #core) (Passed X Y 𝓤 H A) →
-        Walks 𝓤 H A (lent X Y) stayed (WpFn 𝓤 H C Λ function) (lent-clauses X Y 𝓤)
-    walks C Λ fm known = walked 𝓤 H A (lent X Y) stayed (lent-clauses X Y 𝓤) (WpFn 𝓤 H C Λ function)
-        (λ κs. (ptr-vals, E.spells 2 κs X)) (λ κs. (mut-tells (named 0) (κs .0) (B (κs .1 .0)), E.tellss 2 κs X))
-        (λ κs qs bounds a _ are. needs 𝓤 _ _ (λ below.
-        walk 𝓤 H A W (κs .0) (κs .1 .0) (qs .0) (qs .1 .0) (a .0 .ptr .0) (a .0 .ptr .1) (a .0 .name) (a .0 .now) below
-        bounds (a .1) (E.knowns 2 κs X (a .1) (are .1)) C Λ fm known))
-
     pub moves-on : (𝓣 : Tables 𝓤 H) → Triple 𝓤 (𝓣 .C #core) (Passed X Y 𝓤 H A) →
         Triple 𝓤 (WpFn 𝓤 H (𝓣 .C) (𝓣 .Λ) function) (Lent X Y 𝓤 H A)
-    moves-on 𝓣 known = walk-meets 𝓤 H A (lent X Y) stayed W (goes-ref 𝓤 H A W 2 0 tt behind, E.goes 2 𝓤 H A W X)
-        (lent-clauses X Y 𝓤) (WpFn 𝓤 H (𝓣 .C) (𝓣 .Λ) function) (WpFn-mono 𝓤 H (W .laws) 𝓣 function)
-        (walks (𝓣 .C) (𝓣 .Λ) (fmOf 𝓤 H (W .laws) 𝓣) known)
+    moves-on 𝓣 known = by-walk 𝓤 H A W (lent X Y) stayed (lent-clauses X Y 𝓤) function 𝓣
+        (goes-ref 𝓤 H A W 2 0 tt behind, E.goes 2 𝓤 H A W X) (λ κs. (ptr-vals, E.spells 2 κs X))
+        (λ κs. (mut-tells (named 0) (κs .0) (B (κs .1 .0)), E.tellss 2 κs X))
+        (λ κs qs bounds a _ are. needs 𝓤 _ _ (λ below.
+        walk 𝓤 H A W (κs .0) (κs .1 .0) (qs .0) (qs .1 .0) (a .0 .ptr .0) (a .0 .ptr .1) (a .0 .name) (a .0 .now) below
+        bounds (a .1) (E.knowns 2 κs X (a .1) (are .1)) (𝓣 .C) (𝓣 .Λ) (fmOf 𝓤 H (W .laws) 𝓣) known))
