@@ -44,7 +44,7 @@ use denote.Triple.Walked.{ends-at}
 use Rattle.walks.proofs.Extra as E
 use Rattle.walks.proofs.Extra.{Extra, Values, Knowns}
 use Rattle.walks.proofs.Lent.{ref, Ref, Short, Long, LentWithin, lends-within, back-within}
-use Rattle.walks.proofs.Operands.{itself, local, within, gone}
+use Rattle.walks.proofs.Operands.{naming, itself, local, within, gone}
 use Rattle.walks.proofs.Plain.{mirOf, valOf, sure}
 use Rattle.walks.proofs.Whole.{Cell}
 use Rattle.walks.proofs.Told.{by-walk}
@@ -57,15 +57,14 @@ use Rattle.reader.proofs.Tokens as T
 use Rattle.reader.proofs.Tokens.Laws as T′
 use Rattle.reader.proofs.Held.{B, D, L, mach, row, reader, Own, Params, cursor-typed}
 use Rattle.reader.proofs.Made.{New, αᵉ, Made, to-new, goes-new, Gave, made-said}
-use Rattle.reader.proofs.Forms.{Way, Asking, bounded, Asked, asked, cursor, lent, lent-clauses, Lent, plainly}
+use Rattle.reader.proofs.Forms.{Way, Asking, Asked, asked, cursor, lent, lent-clauses, Lent, plainly}
 use Rattle.reader.proofs.Forms.{plainly-clauses, Plainly}
 
 -- the rule for a call that the reader h in the local l is lent to, whose operands read no entry of the reader's
-module _ (X : Extra) (Y : Way X) (g : Asking) {M : Type 1} {𝓤 : URA M} {H : Heap 𝓤} {A : Atoms 𝓤} (W : Given 𝓤 H A)
-    (C : Calls 𝓤 H) (Λ : Loops 𝓤 H) (#f : Name) where
-  abbrev pub Lends : Type 2
-  Lends =
-      (κ : Lft) (q : Share) (l : ℕ) (h : Tokens) → Asked g (h .cursor) → (x : Values X) → Knowns X x →
+module _ (X : Extra) (Y : Way X) {M : Type 1} {𝓤 : URA M} {H : Heap 𝓤} {A : Atoms 𝓤} (W : Given 𝓤 H A) (C : Calls 𝓤 H)
+    (Λ : Loops 𝓤 H) (#f : Name) where
+  abbrev pub LentTo : Lft → Share → ℕ → Tokens → Values X → Type 2
+  LentTo κ q l h x =
       (Γ : List (Item 𝓤)) (F : Env 𝓤 H) (xs : List Opd) (d : Place) (rest : Code) (Q : After 𝓤 H) →
       ((n : ℕ) (κs : Lfts n) (i j : Item 𝓤) → Opds (Go {0}) W (i ∷ j ∷ Γ) F xs (vptr l 0 ∷ flat (E.rows n κs X)
       (valss (E.rows n κs X) (E.spells n κs X) (E.args n κs X x)))) →
@@ -75,61 +74,64 @@ module _ (X : Extra) (Y : Way X) (g : Asking) {M : Type 1} {𝓤 : URA M} {H : H
       Sq W (‵ (Cell (reader κ) fullShare h l 0) ∷ ‵ (Own κ h) ∷ ‵ (flft κ q) ∷ Γ) (runs C Λ F (seq (call #f xs d) rest)
       Q)
 
--- by `&mut`
-module _ (X : Extra) (Y : Way X) {M : Type 1} (𝓤 : URA M) (H : Heap 𝓤) (A : Atoms 𝓤) (W : Given 𝓤 H A) (κ : Lft)
-    (q : Share) (l ν : ℕ) (γ : GName) (h : Tokens) (x : Values X) where
-  abbrev lfts : Lfts 2
-  lfts = (ν ∷ κ, (κ, tt))
+  abbrev pub Lends : Asking → Type 2
+  Lends g = (κ : Lft) (q : Share) (l : ℕ) (h : Tokens) → Asked g (h .cursor) → (x : Values X) → Knowns X x → LentTo κ q
+      l h x
 
-  abbrev given : Args (lent X Y .signature) lfts
-  given = (ref (reader κ) l γ h, E.args 2 lfts X x)
+-- by `&mut`, for a lifetime ν of the call
+module _ (X : Extra) (Y : Way X) {M : Type 1} {𝓤 : URA M} {H : Heap 𝓤} {A : Atoms 𝓤} (W : Given 𝓤 H A) (C : Calls 𝓤 H)
+    (Λ : Loops 𝓤 H) (#f : Name) (fm : FmC 𝓤 H (W .laws) C) (known : Triple 𝓤 (C #f) (Lent X Y 𝓤 H A)) (κ : Lft)
+    (q : Share) (l : ℕ) (h : Tokens) (below : h .cursor .0 ≤ Most.Tokens + 1) (x : Values X) (x-is : Knowns X x) where
+  abbrev lfts : ℕ → Lfts 2
+  lfts ν = (ν ∷ κ, (κ, tt))
 
-  abbrev vals : Vals (lent X Y .signature) lfts
-  vals = (vptr l 0 ∷ [], valss (E.rows 2 lfts X) (E.spells 2 lfts X) (E.args 2 lfts X x))
+  abbrev given : (ν : ℕ) → GName → Args (lent X Y .signature) (lfts ν)
+  given ν γ = (ref (reader κ) l γ h, E.args 2 (lfts ν) X x)
 
-  abbrev to : Lent X Y 𝓤 H A .Ghost
-  to = ((lfts, (PosShare·left q, (PosShare·right q, tt)), (meet-⊑-right (ν ∷ []) κ, tt), given, vals), tt)
+  abbrev vals : (ν : ℕ) → Vals (lent X Y .signature) (lfts ν)
+  vals ν = (vptr l 0 ∷ [], valss (E.rows 2 (lfts ν) X) (E.spells 2 (lfts ν) X) (E.args 2 (lfts ν) X x))
+
+  abbrev to : ℕ → GName → Lent X Y 𝓤 H A .Ghost
+  to ν γ = (
+    (lfts ν, (PosShare·left q, (PosShare·right q, tt)), (meet-⊑-right (ν ∷ []) κ, tt), given ν γ, vals ν),
+    tt,
+  )
 
   goes :
-      h .cursor .0 ≤ Most.Tokens + 1 → Knowns X x →
+      (ν : ℕ) (γ : GName) →
       ent 𝓤 (⋆ 𝓤 H A (‵ (Ref (reader κ) l (ν ∷ κ) γ h) ∷ ‵ (Short κ q ν) ∷ ‵ (Long κ q) ∷ []))
-      (Lent X Y 𝓤 H A .pre to)
-  goes below is =
+      (Lent X Y 𝓤 H A .pre (to ν γ))
+  goes ν γ =
       qed W (‵ (Ref (reader κ) l (ν ∷ κ) γ h) ∷ ‵ (Short κ q ν) ∷ ‵ (Long κ q) ∷ []) ∵ says ! below $
-      use0 W (‵ (owns (E.rows 2 lfts X) (given .1) (vals .1))) (E.owned-all 𝓤 H A W 2 lfts X x is) $
+      use0 W (‵ (owns (E.rows 2 (lfts ν) X) (given ν γ .1) (vals ν .1))) (E.owned-all 𝓤 H A W 2 (lfts ν) X x x-is) $
       move ! (1 ∷ 0 ∷ []) $ fjoin ! $
       nothing ! $ move ! (3 ∷ 0 ∷ []) $ join ! $ move ! (2 ∷ 0 ∷ []) $ join ! $ frame ! $ done !
 
-  abbrev Last : Type 0
-  Last = Lasts (lent X Y) lfts given
+  abbrev Said : (ν : ℕ) (γ : GName) → Y .answer .row .Denot → Lasts (lent X Y) (lfts ν) (given ν γ) → Type 0
+  Said ν γ r ws = Y .Gives h (E.out 2 (lfts ν) X (E.args 2 (lfts ν) X x)) r (ws .0)
 
-  abbrev Said : Y .answer .row .Denot → Last → Type 0
-  Said r ws = Y .Gives h (E.out 2 lfts X (E.args 2 lfts X x)) r (ws .0)
-
-pub lends-mut :
-    (X : Extra) (Y : Way X) {M : Type 1} {𝓤 : URA M} {H : Heap 𝓤} {A : Atoms 𝓤} (W : Given 𝓤 H A) (C : Calls 𝓤 H)
-    (Λ : Loops 𝓤 H) (#f : Name) → FmC 𝓤 H (W .laws) C → Triple 𝓤 (C #f) (Lent X Y 𝓤 H A) → Lends X Y bounded W C Λ #f
-lends-mut X Y {𝓤 = 𝓤} {H} {A} W C Λ #f fm known κ q l h below x is Γ F xs d rest Q os k =
-    use3 W (later (some (λ (ν : ℕ). some (λ (γ : GName). LentWithin (reader κ) l κ q 𝓤 H A h ν γ))))
-    (lends-within (reader κ) l κ q 𝓤 H A W h) $ await ! tt $ pick ! (λ ν. pick ! (λ γ. split ! $
-    move ! (1 ∷ []) $ split ! $ move ! (1 ∷ []) $ split ! $ move ! (3 ∷ 2 ∷ 0 ∷ []) $
-    use3 W (raw (Lent X Y 𝓤 H A .pre (to X Y 𝓤 H A W κ q l ν γ h x))) (goes X Y 𝓤 H A W κ q l ν γ h x below is) $
-    -- [what it asks; what is kept; …]
-    calls-at ! fm (Lent X Y 𝓤 H A) known (to X Y 𝓤 H A W κ q l ν γ h x) (os 2 (ν ∷ κ, (κ, tt)) _ _) (λ u.
-    use1 W (later (some (λ (r : Y .answer .row .Denot). ((‵ (Short κ q ν) ⊛ ‵ (Long κ q) ⊛ ‵ ftrue)
-    ⊛ ‵ (Y .answer .row .own r (u ∷ []))) ⊛ raw (ensured 𝓤 H A (lent X Y) (lent-clauses X Y 𝓤) (ν ∷ κ, (κ, tt))
-    (given X Y 𝓤 H A W κ q l ν γ h x) tt r)))) (id⊢ 𝓤 _) $ await ! tt $ pick ! (λ r. split ! $ move ! (1 ∷ []) $
-    use1 W (some (λ (ws : Last X Y 𝓤 H A W κ q l ν γ h x). ‵ (lastsOf (lent X Y) (ν ∷ κ, (κ, tt))
-    (given X Y 𝓤 H A W κ q l ν γ h x) ws) ⊛ raw (fact 𝓤 (Said X Y 𝓤 H A W κ q l ν γ h x r ws)))) (id⊢ 𝓤 _) $
-    pick ! (λ ws. split ! $ move ! (1 ∷ []) $ heard ! (Said X Y 𝓤 H A W κ q l ν γ h x r ws) (λ e. fsplit ! $
-    move ! (2 ∷ []) $ split ! $ split ! $ move ! (1 ∷ []) $ split ! $
-    -- [a half of the token; true; the other half; the answer; res; what else is said at exit; what is kept; …]
-    move ! (6 ∷ 4 ∷ []) $ join ! $ move ! (3 ∷ 1 ∷ 0 ∷ []) $
-    use3 W (later (‵ (Cell (reader κ) fullShare (ws .0) l 0) ⊛ ‵ (Own κ (ws .0)) ⊛ ‵ (flft κ q)))
-    (back-within (reader κ) l κ q 𝓤 H A W (ws .0) ν γ) $ await ! tt $ split ! $ move ! (1 ∷ []) $ split ! $
-    -- [what the reader owns; the token; its cell; true; the answer; what else is said at exit; …]
-    move ! (3 ∷ []) $ drop ! $ move ! (4 ∷ []) $ drop ! $ move ! (3 ∷ 2 ∷ 0 ∷ 1 ∷ []) $
-    k u r (ws .0) (subst (λ (y : Values X). Y .Gives h y r (ws .0)) (E.out-args 2 (ν ∷ κ, (κ, tt)) X x) e)))))))
+  pub lends-mut : LentTo X Y W C Λ #f κ q l h x
+  lends-mut Γ F xs d rest Q os k =
+      use3 W (later (some (λ (ν : ℕ). some (λ (γ : GName). LentWithin (reader κ) l κ q 𝓤 H A h ν γ))))
+      (lends-within (reader κ) l κ q 𝓤 H A W h) $ await ! tt $ pick ! (λ ν. pick ! (λ γ. split ! $
+      move ! (1 ∷ []) $ split ! $ move ! (1 ∷ []) $ split ! $ move ! (3 ∷ 2 ∷ 0 ∷ []) $
+      use3 W (raw (Lent X Y 𝓤 H A .pre (to ν γ))) (goes ν γ) $
+      -- [what it asks; what is kept; …]
+      calls-at ! fm (Lent X Y 𝓤 H A) known (to ν γ) (os 2 (lfts ν) _ _) (λ u.
+      use1 W (later (some (λ (r : Y .answer .row .Denot). ((‵ (Short κ q ν) ⊛ ‵ (Long κ q) ⊛ ‵ ftrue)
+      ⊛ ‵ (Y .answer .row .own r (u ∷ []))) ⊛ raw (ensured 𝓤 H A (lent X Y) (lent-clauses X Y 𝓤) (lfts ν) (given ν γ) tt
+      r)))) (id⊢ 𝓤 _) $ await ! tt $ pick ! (λ r. split ! $ move ! (1 ∷ []) $
+      use1 W (some (λ (ws : Lasts (lent X Y) (lfts ν) (given ν γ)). ‵ (lastsOf (lent X Y) (lfts ν) (given ν γ) ws)
+      ⊛ raw (fact 𝓤 (Said ν γ r ws)))) (id⊢ 𝓤 _) $
+      pick ! (λ ws. split ! $ move ! (1 ∷ []) $ heard ! (Said ν γ r ws) (λ e. fsplit ! $
+      move ! (2 ∷ []) $ split ! $ split ! $ move ! (1 ∷ []) $ split ! $
+      -- [a half of the token; true; the other half; the answer; res; what else is said at exit; what is kept; …]
+      move ! (6 ∷ 4 ∷ []) $ join ! $ move ! (3 ∷ 1 ∷ 0 ∷ []) $
+      use3 W (later (‵ (Cell (reader κ) fullShare (ws .0) l 0) ⊛ ‵ (Own κ (ws .0)) ⊛ ‵ (flft κ q)))
+      (back-within (reader κ) l κ q 𝓤 H A W (ws .0) ν γ) $ await ! tt $ split ! $ move ! (1 ∷ []) $ split ! $
+      -- [what the reader owns; the token; its cell; true; the answer; what else is said at exit; …]
+      move ! (3 ∷ []) $ drop ! $ move ! (4 ∷ []) $ drop ! $ move ! (3 ∷ 2 ∷ 0 ∷ 1 ∷ []) $
+      k u r (ws .0) (subst (λ (y : Values X). Y .Gives h y r (ws .0)) (E.out-args 2 (lfts ν) X x) e)))))))
 
 -- the types of the locals that hold the reader and its parts
 abbrev reader-type : Ty
@@ -243,7 +245,7 @@ module _ (μ : Mutability) (X : Extra) (Y : Way X) (g : Asking) (#new #f : Name)
         owned ! (Y .step .row) (Is (Y .step .row)) (Y .step .makes 𝓤 H A W) (Y .step .make r d) _ is $ done !
 
     module _ (C : Calls 𝓤 H) (Λ : Loops 𝓤 H) (fm : FmC 𝓤 H (W .laws) C) (known : Triple 𝓤 (C #new)
-        (New 𝓤 H A mem run)) (lends : Lends X Y g W C Λ #f) where
+        (New 𝓤 H A mem run)) (lends : Lends X Y W C Λ #f g) where
       walk :
           Is (ShrSlice (named 0) κ u8) ks (row h₀ ∷ []) →
           Is (ShrSlice (named 0) κ u8) ts (sliceVal (ts .ptr) (length (ts .now)) ∷ []) →
@@ -256,7 +258,8 @@ module _ (μ : Mutability) (X : Extra) (Y : Way X) (g : Asking) (#new #f : Name)
           enter ! C Λ function (row h₀ ∷ sliceVal (ts .ptr) (length (ts .now)) ∷ I′.lowered c ∷ flat (E.rows 1 (κ, tt) X)
           (vals₀ .1 .1 .1)) _ $
           alloc1 ! (λ l₀. alloc1 ! (λ l₁. alloc1 ! (λ l₂. alloc1 ! (λ l₃. E.allocs-extra W X (λ bs. alloc1 ! (λ lₜ.
-          alloc1 ! (λ lₐ. alloc1 ! (λ lₙ. alloc1 ! (λ lᵣ. alloc1 ! (λ l. alloc0 ! $ params1 ! $
+          alloc1 ! (λ lₐ. alloc1 ! (λ lₙ. alloc1 ! (λ lᵣ. alloc1 ! (λ l.
+          naming (E.behind 𝓤 H X bs (Temps lₜ lₐ lₙ lᵣ l)) (λ spot. alloc0 ! $ params1 ! $
           pass1 ! (init ! 15 refl (shr-slice-lawful 𝓤 H A W (named 0) κ u8 .typed ks _ p .0)) $
           pass1 ! (init ! 13 refl (shr-slice-lawful 𝓤 H A W (named 0) κ u8 .typed ts _ p′ .0)) $
           pass1 ! (init ! 11 refl (cursor .typed 𝓤 H A W c _ p″)) $ move ! (10 ∷ []) $
@@ -272,13 +275,13 @@ module _ (μ : Mutability) (X : Extra) (Y : Way X) (g : Asking) (#new #f : Name)
           move ! (1 ∷ []) $ use1 W (raw (fact 𝓤 (Made h₀ h))) (made-said 𝓤 H A mem run κ q h₀ h) $
           heard ! (Made h₀ h) (λ e. split ! $ split ! $ move ! (2 ∷ []) $
           peeks ! (B κ) (Is (B κ)) (shows 𝓤 H A (B κ)) h (u ∷ []) (λ is.
-          land ! (within ! (E.behind 𝓤 H X bs (Temps lₜ lₐ lₙ lᵣ l) 2) (stop !))
+          land ! (within ! (spot 2) (stop !))
           (init ! 9 refl (LL.lawful (T.the-type (αᵉ κ)) (T′.the-laws (αᵉ κ)) 𝓤 H A W .typed h _ is .0)) $
-          assigns ! (of-opd ! (load ! (within ! (E.behind 𝓤 H X bs (Temps lₜ lₐ lₙ lᵣ l) 2) (stop !)) (look ! 9 refl)))
-          (within ! (E.behind 𝓤 H X bs (Temps lₜ lₐ lₙ lᵣ l) 0) (stop !))
+          assigns ! (of-opd ! (load ! (within ! (spot 2) (stop !)) (look ! 9 refl)))
+          (within ! (spot 0) (stop !))
           (init ! 13 refl (LL.lawful (T.the-type (αᵉ κ)) (T′.the-laws (αᵉ κ)) 𝓤 H A W .typed h _ is .0)) $
-          assigns ! (addr ! (within ! (E.behind 𝓤 H X bs (Temps lₜ lₐ lₙ lᵣ l) 0) (stop !)))
-          (within ! (E.behind 𝓤 H X bs (Temps lₜ lₐ lₙ lᵣ l) 3) (stop !)) (init ! 7 refl (tt, tt)) $
+          assigns ! (addr ! (within ! (spot 0) (stop !)))
+          (within ! (spot 3) (stop !)) (init ! 7 refl (tt, tt)) $
           rewrite ! 13 (λ (y : Val). ‵ (fat fullShare reader-type lₜ 0 y)) (ap only (LL.tells (D κ) (L κ) h (u ∷ [])
           is)) refl $
           rewrite ! 0 (λ (ys : List Val). ‵ (B κ .own h ys)) (LL.tells (D κ) (L κ) h (u ∷ []) is) refl $
@@ -288,23 +291,23 @@ module _ (μ : Mutability) (X : Extra) (Y : Way X) (g : Asking) (#new #f : Name)
           -- the answer's cursor; …; the reference; …; what `new` gave; …; the answer; …; …; _3; …; _2; …; _1; …; room
           -- for _0; …]
           lends κ q lₜ h (subst (Asked g) (sym (e .2)) may) x₀ a-is _ _ _ _ _ _ (λ n κs i j. and-then !
-          (load ! (within ! (E.behind 𝓤 H X bs (Temps lₜ lₐ lₙ lᵣ l) 3) (stop !)) (look ! 7 refl))
+          (load ! (within ! (spot 3) (stop !)) (look ! 7 refl))
           (E.reads-extra W n κs 4 4 X bs x₀ refl (E.shifts 𝓤 H X bs (mirOf (Y .step), l₀) _ 3 (E.shifts 𝓤 H X bs
           (kinds-type, l₁) _ 2 (E.shifts 𝓤 H X bs (kinds-type, l₂) _ 1 (E.shifts 𝓤 H X bs (cursor .mir, l₃) _ 0
           (E.spots 𝓤 H X bs (Temps lₜ lₐ lₙ lᵣ l)))))))) (λ v r h′ e′.
           peeks ! (Y .answer .row) (Is (Y .answer .row)) (shows 𝓤 H A (Y .answer .row)) r (v ∷ []) (λ is′.
-          land ! (within ! (E.behind 𝓤 H X bs (Temps lₜ lₐ lₙ lᵣ l) 1) (stop !))
+          land ! (within ! (spot 1) (stop !))
           (init ! 13 refl (Y .answer .typed 𝓤 H A W r v is′)) $
           rewrite ! 13 (λ (y : Val). ‵ (fat fullShare (Y .answer .mir) lₐ 0 y)) (ap only (Y .answer .tells r (v ∷ [])
           is′)) refl $
           move ! (2 ∷ []) $ peeks ! (B κ) (Is (B κ)) (shows 𝓤 H A (B κ)) h′ (mach h′ ∷ []) (λ is″.
           -- [what the reader owns; the answer; its cell; the token; true; what the row and the cursor own; the other
           -- parameters' locals; room for its cursor; …]
-          assigns ! (of-opd ! (load ! (within ! (E.behind 𝓤 H X bs (Temps lₜ lₐ lₙ lᵣ l) 0) (fld ! refl (stop !)))
-          (look-in ! 2 (sub ! 2 refl (whole !))))) (within ! (E.behind 𝓤 H X bs (Temps lₜ lₐ lₙ lᵣ l) 4) (stop !))
+          assigns ! (of-opd ! (load ! (within ! (spot 0) (fld ! refl (stop !)))
+          (look-in ! 2 (sub ! 2 refl (whole !))))) (within ! (spot 4) (stop !))
           (init ! 7 refl (tt, cursor-typed 𝓤 H A W κ h′ is″)) $
-          assigns ! (agg ! (and-then ! (load ! (within ! (E.behind 𝓤 H X bs (Temps lₜ lₐ lₙ lᵣ l) 1) (stop !))
-          (look ! 13 refl)) (and-then ! (load ! (within ! (E.behind 𝓤 H X bs (Temps lₜ lₐ lₙ lᵣ l) 4) (stop !))
+          assigns ! (agg ! (and-then ! (load ! (within ! (spot 1) (stop !))
+          (look ! 13 refl)) (and-then ! (load ! (within ! (spot 4) (stop !))
           (look ! 7 refl)) (no-more !)))) (itself !) (init ! 22 refl (Y .step .typed 𝓤 H A W (Y .step .make r
           (h′ .cursor)) _ (Y .step .whole r (h′ .cursor) (sure (Y .answer) r _ is′) (LL.owed (D κ) (L κ) h′ _ is″ .1 .1
           .0)))) $
@@ -314,12 +317,12 @@ module _ (μ : Mutability) (X : Extra) (Y : Way X) (g : Asking) (#new #f : Name)
           gone ! 9 refl refl $ gone ! 7 refl refl $ gone ! 5 refl refl $ free0 ! $
           move ! (2 ∷ 3 ∷ []) $ join ! $ keep ! (0 ∷ 3 ∷ []) $
           by ! (exits r (h′ .cursor) (Y .back h₀ x₀ r h′ (subst (λ (t : Tokens). Y .Gives t x₀ r h′) (same h e) e′))
-          (Y .step .whole r (h′ .cursor) (sure (Y .answer) r _ is′) (LL.owed (D κ) (L κ) h′ _ is″ .1 .1 .0))))))))))))))))))))
+          (Y .step .whole r (h′ .cursor) (sure (Y .answer) r _ is′) (LL.owed (D κ) (L κ) h′ _ is″ .1 .1 .0)))))))))))))))))))))
 
   module _ {M : Type 1} (𝓤 : URA M) (H : Heap 𝓤) (A : Atoms 𝓤) (W : Given 𝓤 H A) (mem : Memory → SProp 𝓤)
       (run : Routine → Fun 𝓤) where
     pub made-and-lent : (𝓣 : Tables 𝓤 H) → Triple 𝓤 (𝓣 .C #new) (New 𝓤 H A mem run) →
-        (FmC 𝓤 H (W .laws) (𝓣 .C) → Lends X Y g W (𝓣 .C) (𝓣 .Λ) #f) →
+        (FmC 𝓤 H (W .laws) (𝓣 .C) → Lends X Y W (𝓣 .C) (𝓣 .Λ) #f g) →
         Triple 𝓤 (WpFn 𝓤 H (𝓣 .C) (𝓣 .Λ) function) (Plainly X Y 𝓤 H A g)
     made-and-lent 𝓣 known lends = by-walk 𝓤 H A W (plainly X Y) stayed (plainly-clauses X Y 𝓤 g) function 𝓣 (
       goes-none-slice 𝓤 H A W 1 (0 ∷ []) tt (plain (λ _. u8)) yes,

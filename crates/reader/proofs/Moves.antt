@@ -36,7 +36,7 @@ use denote.Triple.Entry.{Args, Vals, onEntry}
 use denote.Triple.Walked.{says, needs, Stays, stay-ref, hasOf, walkOf, goes-ref, ends-at}
 use Rattle.walks.proofs.Extra as E
 use Rattle.walks.proofs.Extra.{Extra, Values, Knowns}
-use Rattle.walks.proofs.Operands.{itself, within, gone}
+use Rattle.walks.proofs.Operands.{naming, itself, within, gone}
 use Rattle.walks.proofs.Plain.{mirOf}
 use Rattle.walks.proofs.Whole.{opens-whole}
 use Rattle.walks.proofs.Told.{by-walk}
@@ -167,7 +167,7 @@ module _ (X : Extra) (Y : Way X) (#core : Name) where
             qed W ((‵ (flft κ q) ⊛ tok) ∷ ‵ (owns (MutRef (named 0) κ (B κ′) ∷ E.rows 2 (κ, (κ′, tt)) X) args vals)
             ∷ []) ∵ enter ! C Λ function (vptr b o ∷ flat (E.rows 2 (κ, (κ′, tt)) X) (vals .1)) _ $
             alloc1 ! (λ l₀. alloc1 ! (λ l₁. E.allocs-extra W X (λ bs. alloc1 ! (λ lₛ. alloc1 ! (λ lₖ. alloc1 ! (λ l.
-            alloc0 ! $ params1 ! $ pass1 ! (init ! 7 refl (tt, tt)) $ move ! (6 ∷ []) $
+            naming (E.behind 𝓤 H X bs (Temps lₛ lₖ l)) (λ spot. alloc0 ! $ params1 ! $ pass1 ! (init ! 7 refl (tt, tt)) $ move ! (6 ∷ []) $
             E.passes-extra W 2 (κ, (κ′, tt)) X bs a x-is (Temps lₛ lₖ l) $
             -- the borrow is opened
             move ! (12 ∷ []) $ fsplit ! $ fsplit3 ! $ drop ! $ move ! (14 ∷ []) $ split ! $ move ! (2 ∷ 3 ∷ 0 ∷ []) $
@@ -175,18 +175,18 @@ module _ (X : Extra) (Y : Way X) (#core : Name) where
             -- [the reader's cell; what it owns; the open borrow; obs; auth; 'a's token; what the other parameters own;
             -- their locals; the cursor; …; the kinds; …; the struct; …; _1; …; room for _0; …]
             assigns ! (of-opd ! (load ! (from ! (hop ! (look ! 14 refl) (fld ! refl (stop !))))
-            (look-in ! 0 (sub ! 0 refl (whole !))))) (within ! (E.behind 𝓤 H X bs (Temps lₛ lₖ l) 1) (stop !))
+            (look-in ! 0 (sub ! 0 refl (whole !))))) (within ! (spot 1) (stop !))
             (init ! 10 refl (tt, kinds-typed 𝓤 H A W κ′ h was)) $
             assigns ! (of-opd ! (load ! (from ! (hop ! (look ! 14 refl) (fld ! refl (stop !))))
-            (look-in ! 0 (sub ! 2 refl (whole !))))) (within ! (E.behind 𝓤 H X bs (Temps lₛ lₖ l) 2) (stop !))
+            (look-in ! 0 (sub ! 2 refl (whole !))))) (within ! (spot 2) (stop !))
             (init ! 8 refl (tt, cursor-typed 𝓤 H A W κ′ h was)) $
             move ! (1 ∷ []) $ use1 W (‵ (R.Passed κ′ h) ⊛ ‵ (Own κ′ h)) (apart 𝓤 H A W κ′ h) $ split ! $
             move ! (0 ∷ 6 ∷ []) $ use2 W (raw (Passed X Y 𝓤 H A .pre to)) goes $
             -- [what the callee asks; what the reader owns; its cell; the open borrow; obs; auth; what the other
             -- parameters own; their locals; the cursor; …]
             calls-at ! fm (Passed X Y 𝓤 H A) known to
-            (and-then ! (load ! (within ! (E.behind 𝓤 H X bs (Temps lₛ lₖ l) 1) (stop !)) (look ! 10 refl))
-            (and-then ! (load ! (within ! (E.behind 𝓤 H X bs (Temps lₛ lₖ l) 2) (stop !)) (look ! 8 refl))
+            (and-then ! (load ! (within ! (spot 1) (stop !)) (look ! 10 refl))
+            (and-then ! (load ! (within ! (spot 2) (stop !)) (look ! 8 refl))
             (E.reads-extra W 1 (κ′, tt) 2 7 X bs x refl (E.shifts 𝓤 H X bs (Y .answer .mir, l₀) _ 1 (E.shifts 𝓤 H X bs
             (ref-type, l₁) _ 0 (E.spots 𝓤 H X bs (Temps lₛ lₖ l))))))) (λ u.
             use1 W (later (some (λ (s : Y .step .row .Denot). (tok ⊛ ‵ (Y .step .row .own s (u ∷ [])))
@@ -197,16 +197,16 @@ module _ (X : Extra) (Y : Way X) (#core : Name) where
             -- other parameters own; their locals; the cursor; …; the kinds; …; room for the struct; …; _1; …; room for
             -- _0; …]
             peeks ! (Y .step .row) (Is (Y .step .row)) (shows 𝓤 H A (Y .step .row)) s (u ∷ []) (λ is.
-            land ! (within ! (E.behind 𝓤 H X bs (Temps lₛ lₖ l) 0) (stop !))
+            land ! (within ! (spot 0) (stop !))
             (init ! 13 refl (Y .step .typed 𝓤 H A W s u is)) $
             rewrite ! 13 (λ (y : Val). ‵ (fat fullShare (mirOf (Y .step)) lₛ 0 y)) (ap only (Y .step .tells s (u ∷ [])
             is)) refl $
             -- the cursor is stored, and the answer
-            assigns ! (of-opd ! (load ! (within ! (E.behind 𝓤 H X bs (Temps lₛ lₖ l) 0) (fld ! refl (stop !)))
+            assigns ! (of-opd ! (load ! (within ! (spot 0) (fld ! refl (stop !)))
             (look-in ! 13 (sub ! 1 refl (whole !))))) (from ! (hop ! (look ! 15 refl) (fld ! refl (stop !))))
             (store-in ! 3 (sub ! 2 refl (whole !)) (cursor .typed 𝓤 H A W (Y .step .snd s) _ (Y .step .parts s _ is
             .1))) $
-            assigns ! (of-opd ! (load ! (within ! (E.behind 𝓤 H X bs (Temps lₛ lₖ l) 0) (fld ! refl (stop !)))
+            assigns ! (of-opd ! (load ! (within ! (spot 0) (fld ! refl (stop !)))
             (look-in ! 13 (sub ! 0 refl (whole !))))) (itself !) (init ! 17 refl (Y .answer .typed 𝓤 H A W
             (Y .step .fst s) _ (Y .step .parts s _ is .0))) $
             -- the borrow is closed at the new cursor
@@ -215,7 +215,7 @@ module _ (X : Extra) (Y : Way X) (#core : Name) where
             returns ! (look ! 14 refl) $ gone ! 14 refl refl $ gone ! 12 refl refl $ move ! (5 ∷ []) $
             E.frees-extra W X bs x $ gone ! 9 refl refl $ gone ! 7 refl refl $ gone ! 5 refl refl $ free0 ! $
             keep ! (0 ∷ 1 ∷ 2 ∷ 3 ∷ []) $
-            by ! (exits (Y .step .fst s) (moved h (Y .step .snd s)) (gives s e) (Y .step .parts s _ is .0)))))))))))))
+            by ! (exits (Y .step .fst s) (moved h (Y .step .snd s)) (gives s e) (Y .step .parts s _ is .0))))))))))))))
 
   module _ {M : Type 1} (𝓤 : URA M) (H : Heap 𝓤) (A : Atoms 𝓤) (W : Given 𝓤 H A) where
     pub moves-on : (𝓣 : Tables 𝓤 H) → Triple 𝓤 (𝓣 .C #core) (Passed X Y 𝓤 H A) →

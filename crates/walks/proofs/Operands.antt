@@ -15,6 +15,10 @@ use types.Kit.{move, use1, use2, split, assume, frame, each, done}
 use types.Part.{Part}
 use types.Run.{Finds, Walks, Opd, look, stop, from, load, free1}
 
+-- a fact that a script uses more than once gets a name
+abbrev pub naming {α β} : {X : Type α} {Y : Type β} → X → (X → Y) → Y
+naming x k = k x
+
 module _ {M : Type 1} {𝓤 : URA M} {H : Heap 𝓤} {A : Atoms 𝓤} {K : Type 0} {W : Given 𝓤 H A} {Γ : List (Item 𝓤)}
     {E : Env 𝓤 H} {i : ℕ} where
   -- the local i
