@@ -44,7 +44,8 @@ use Rattle.walks.proofs.Told.{by-walk}
 use Rattle.buffer.specs.declared.ParseBuffer.{ParseBuffer}
 use Rattle.buffer.proofs.ParseBuffer as P
 use Rattle.buffer.proofs.ParseBuffer.Laws as P′
-use Rattle.buffer.proofs.Held.{buffer, B, column, relends, lasting, Way, passed, passed-clauses, Passed, lent, lent-clauses, Lent}
+use Rattle.buffer.proofs.Held.{buffer, B, column, relends, lasting}
+use Rattle.buffer.proofs.Held.{Way, passed, passed-clauses, Passed, lent, lent-clauses, Lent}
 
 module _ (Y : Way) (#core : Name) where
   -- the code of such a function, which calls #core

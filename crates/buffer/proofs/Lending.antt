@@ -45,7 +45,8 @@ use Rattle.walks.proofs.Told.{by-walk}
 use Rattle.buffer.specs.declared.ParseBuffer.{ParseBuffer}
 use Rattle.buffer.proofs.ParseBuffer as P
 use Rattle.buffer.proofs.ParseBuffer.Laws as P′
-use Rattle.buffer.proofs.Held.{buffer, B, column, relends, lasting, Way, passed, passed-clauses, Passed, lent, lent-clauses, Lent}
+use Rattle.buffer.proofs.Held.{buffer, B, column, relends, lasting}
+use Rattle.buffer.proofs.Held.{Way, passed, passed-clauses, Passed, lent, lent-clauses, Lent}
 
 module _ (Y : Way) (#core : Name) where
   -- the code of such a function, which calls #core
@@ -158,7 +159,8 @@ module _ (Y : Way) (#core : Name) where
         qed W (toks ∷ ‵ (finally u32 (ls .name) ls′) ∷ ‵ (finally u8 (ks .name) ks′) ∷ ‵ Others ∷ []) ∵
         suffices ! _ (ends-at 𝓤 H A (passed Y) stayed (passed-clauses Y 𝓤) W bound (valOf (Y .step) r p)
         (Y .step .make r p) (ks′, (ls′, (tt, (last (Y .node) yes n, tt)))) (m₁, (m₂, (tt, (tt, tt))))) $
-        says ! (Y .step .made r p (λ r′ p′. Y .Gives h (ks .now) (ls .now) n r′ p′ ks′ ls′) e) $ frame ! $ move ! (0 ∷ 2 ∷ []) $ fjoin ! $ move ! (1 ∷ 0 ∷ []) $ fjoin ! $ frame ! $
+        says ! (Y .step .made r p (λ r′ p′. Y .Gives h (ks .now) (ls .now) n r′ p′ ks′ ls′) e) $ frame ! $
+        move ! (0 ∷ 2 ∷ []) $ fjoin ! $ move ! (1 ∷ 0 ∷ []) $ fjoin ! $ frame ! $
         owned ! (Y .step .row) (Is (Y .step .row)) (Y .step .makes 𝓤 H A W) (Y .step .make r p) _ is $ done !
 
     module _ (C : Calls 𝓤 H) (Λ : Loops 𝓤 H) (fm : FmC 𝓤 H (W .laws) C) (known : Triple 𝓤 (C #core) (Lent Y 𝓤 H A)) where
@@ -179,8 +181,8 @@ module _ (Y : Way) (#core : Name) where
           pass1 ! (init ! 16 refl (Y .node .typed 𝓤 H A W n _ n-is)) $ pass0 ! $
           assigns ! (of-opd ! (local ! 18 refl)) (itself !) (init ! 14 refl (B .typed 𝓤 H A W h _ h-is)) $
           assigns ! (addr ! (itself !)) (itself !) (init ! 10 refl (tt, tt)) $
-          relends ! ks 22 8 6 refl refl refl refl refl refl refl refl (mut-slice-lawful 𝓤 H A W (named 0) κ₁ u8 .typed ks _
-          ks-is .0) $
+          relends ! ks 22 8 6 refl refl refl refl refl refl refl refl (mut-slice-lawful 𝓤 H A W (named 0) κ₁ u8 .typed ks
+          _ ks-is .0) $
           relends ! ls 20 4 2 refl refl refl refl refl refl refl refl (mut-slice-lawful 𝓤 H A W (named 1) κ₂ u32 .typed ls
           _ ls-is .0) $
           -- the record is lent

@@ -1,6 +1,6 @@
 // The node count and the open list in one record, which is lent to append and patch, after the Rust's &mut ParseBuffer.
-// Each takes the record apart, calls the function of crate nodes, and stores what that leaves. A caller that has the
-// record by value uses the functions at the end.
+// Each calls a function with the record by value, above the function of crate nodes, and stores what that leaves. A
+// caller that has the record by value uses the functions at the end.
 ghost use mathlib.Core.Path.{_≡_};
 ghost use Prim.Native.Nat.{_≤_};
 ghost use Rattle.nodes.specs.Answer.{Slots, past};

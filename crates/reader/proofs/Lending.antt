@@ -317,7 +317,8 @@ module _ (μ : Mutability) (X : Extra) (Y : Way X) (g : Asking) (#new #f : Name)
           gone ! 9 refl refl $ gone ! 7 refl refl $ gone ! 5 refl refl $ free0 ! $
           move ! (2 ∷ 3 ∷ []) $ join ! $ keep ! (0 ∷ 3 ∷ []) $
           by ! (exits r (h′ .cursor) (Y .back h₀ x₀ r h′ (subst (λ (t : Tokens). Y .Gives t x₀ r h′) (same h e) e′))
-          (Y .step .whole r (h′ .cursor) (sure (Y .answer) r _ is′) (LL.owed (D κ) (L κ) h′ _ is″ .1 .1 .0)))))))))))))))))))))
+          (Y .step .whole r (h′ .cursor) (sure (Y .answer) r _ is′) (LL.owed (D κ) (L κ) h′ _ is″ .1 .1
+          .0)))))))))))))))))))))
 
   module _ {M : Type 1} (𝓤 : URA M) (H : Heap 𝓤) (A : Atoms 𝓤) (W : Given 𝓤 H A) (mem : Memory → SProp 𝓤)
       (run : Routine → Fun 𝓤) where

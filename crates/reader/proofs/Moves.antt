@@ -167,7 +167,8 @@ module _ (X : Extra) (Y : Way X) (#core : Name) where
             qed W ((‵ (flft κ q) ⊛ tok) ∷ ‵ (owns (MutRef (named 0) κ (B κ′) ∷ E.rows 2 (κ, (κ′, tt)) X) args vals)
             ∷ []) ∵ enter ! C Λ function (vptr b o ∷ flat (E.rows 2 (κ, (κ′, tt)) X) (vals .1)) _ $
             alloc1 ! (λ l₀. alloc1 ! (λ l₁. E.allocs-extra W X (λ bs. alloc1 ! (λ lₛ. alloc1 ! (λ lₖ. alloc1 ! (λ l.
-            naming (E.behind 𝓤 H X bs (Temps lₛ lₖ l)) (λ spot. alloc0 ! $ params1 ! $ pass1 ! (init ! 7 refl (tt, tt)) $ move ! (6 ∷ []) $
+            naming (E.behind 𝓤 H X bs (Temps lₛ lₖ l)) (λ spot. alloc0 ! $ params1 ! $
+            pass1 ! (init ! 7 refl (tt, tt)) $ move ! (6 ∷ []) $
             E.passes-extra W 2 (κ, (κ′, tt)) X bs a x-is (Temps lₛ lₖ l) $
             -- the borrow is opened
             move ! (12 ∷ []) $ fsplit ! $ fsplit3 ! $ drop ! $ move ! (14 ∷ []) $ split ! $ move ! (2 ∷ 3 ∷ 0 ∷ []) $

@@ -1,4 +1,5 @@
--- `reader::consume_optional` meets its contract: it is lent the reader, and calls `tokens::consume_optional` with the kinds and the cursor.
+-- `reader::consume_optional` meets its contract: it is lent the reader, and calls
+-- `tokens::consume_optional` with the kinds and the cursor.
 use contract.Running.{givenOf}
 use Rattle.walks.proofs.Told.{told}
 use Rattle.reader.proofs.Moves.{moves-on}
@@ -13,5 +14,5 @@ pub consume-optional-spec : {M : Type 1} → statement M
 unfolding code.routine
 consume-optional-spec 𝓤 H 𝓜 𝓖 𝓡 =
     told 𝓤 H 𝓜 𝓡 code.env _ #reader·consume-optional code.function (code.unfolded 𝓤 H 𝓜 𝓡) (λ 𝓣 cite.
-    moves-on _ trying core.name 𝓤 H (𝓖 .A) (givenOf 𝓤 H 𝓜 𝓖) 𝓣 (cite _ core.name core.routine code.calls-tokens·consume-optional
-    (core-thm.met 𝓤 H 𝓜 𝓖 𝓡)))
+    moves-on _ trying core.name 𝓤 H (𝓖 .A) (givenOf 𝓤 H 𝓜 𝓖) 𝓣 (cite _ core.name core.routine
+    code.calls-tokens·consume-optional (core-thm.met 𝓤 H 𝓜 𝓖 𝓡)))

@@ -19,5 +19,5 @@ consume-optional-at-spec 𝓤 H 𝓜 𝓖 𝓡 =
     told 𝓤 H 𝓜 𝓡 code.env _ #reader·consume-optional-at code.function (code.unfolded 𝓤 H 𝓜 𝓡) (λ 𝓣 cite.
     made-and-lent mut _ trying bounded new.name consume-optional.name 𝓤 H (𝓖 .A) (givenOf 𝓤 H 𝓜 𝓖) (𝓜 .mem) (𝓡 .run) 𝓣
     (cite _ new.name new.routine code.calls-reader·new (new-thm.met 𝓤 H 𝓜 𝓖 𝓡)) (λ fm.
-    lends-mut _ trying (givenOf 𝓤 H 𝓜 𝓖) (𝓣 .C) (𝓣 .Λ) consume-optional.name fm (cite _ consume-optional.name consume-optional.routine
-    code.calls-reader·consume-optional (consume-optional-thm.met 𝓤 H 𝓜 𝓖 𝓡))))
+    lends-mut _ trying (givenOf 𝓤 H 𝓜 𝓖) (𝓣 .C) (𝓣 .Λ) consume-optional.name fm (cite _ consume-optional.name
+    consume-optional.routine code.calls-reader·consume-optional (consume-optional-thm.met 𝓤 H 𝓜 𝓖 𝓡))))
