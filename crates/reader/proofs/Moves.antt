@@ -13,7 +13,7 @@ use base.Logic.{SProp, ent, snd∗, exE, id⊢}
 use base.Fml.{GName, Lft, Share, ftrue, fat, flft, fobs, fbor}
 use prog.Wp.{Heap, Calls, Loops, WpFn, Tables}
 use ghost.Atoms.{Atoms, sem}
-use contract.Lifetimes.{AllOutlive}
+use contract.Lifetimes.{Lfts, AllOutlive}
 use contract.Monad.{fact}
 use types.Kit.{Given, Item, ‵, raw, some, later, _⊛_, ⋆, _$_, _∵_, !, qed, by, move}
 use types.Kit.{keep, drop, use0, use1, use2, split, join, pick, rewrite, fsplit, fsplit3, fjoin, fjoin3, feqI, suffices}
@@ -57,16 +57,18 @@ abbrev kinds-type : Ty
 kinds-type = sliceTy (tyRef erased imm (tyInt w8))
 
 module _ (X : Extra) (Y : Way X) (#core : Name) where
+  -- the n-th local behind the parameters
+  abbrev at : ℕ → ℕ
+  at n = suc (suc (E.beyond X n))
+
   -- the code of such a function, which calls #core
   abbrev body : Code
   body =
-      seq (assign (place (suc (suc (E.beyond X 1))) []) (rvOpd (copy (place 1 (deref (T′.mir erased) ∷ field 0 ∷ [])))))
-      (seq (assign (place (suc (suc (E.beyond X 2))) []) (rvOpd (copy (place 1 (deref (T′.mir erased) ∷ field 2 ∷ [])))))
-      (seq (call #core (copy (place (suc (suc (E.beyond X 1))) []) ∷ copy (place (suc (suc (E.beyond X 2))) [])
-      ∷ E.operands X 2) (place (suc (suc (E.beyond X 0))) []))
-      (seq (assign (place 1 (deref (T′.mir erased) ∷ field 2 ∷ [])) (rvOpd (copy (place (suc (suc (E.beyond X 0)))
-      (field 1 ∷ [])))))
-      (seq (assign (place 0 []) (rvOpd (copy (place (suc (suc (E.beyond X 0))) (field 0 ∷ []))))) return))))
+      seq (assign (place (at 1) []) (rvOpd (copy (place 1 (deref (T′.mir erased) ∷ field 0 ∷ [])))))
+      (seq (assign (place (at 2) []) (rvOpd (copy (place 1 (deref (T′.mir erased) ∷ field 2 ∷ [])))))
+      (seq (call #core (copy (place (at 1) []) ∷ copy (place (at 2) []) ∷ E.operands X 2) (place (at 0) []))
+      (seq (assign (place 1 (deref (T′.mir erased) ∷ field 2 ∷ [])) (rvOpd (copy (place (at 0) (field 1 ∷ [])))))
+      (seq (assign (place 0 []) (rvOpd (copy (place (at 0) (field 0 ∷ []))))) return))))
 
   abbrev pub function : Fn
   function = record {
@@ -87,6 +89,9 @@ module _ (X : Extra) (Y : Way X) (#core : Name) where
 
   module _ {M : Type 1} (𝓤 : URA M) (H : Heap 𝓤) (A : Atoms 𝓤) (W : Given 𝓤 H A) (κ κ′ : Lft) (q q′ : Share) (b o : ℕ)
       (γ : GName) (h : Tokens) (below : h .cursor .0 ≤ Most.Tokens + 1) where
+    abbrev κs : Lfts 2
+    κs = (κ, (κ′, tt))
+
     -- the token that the call takes and gives back
     abbrev tok : Item 𝓤
     tok = ‵ (flft κ′ q′) ⊛ ‵ ftrue
@@ -96,19 +101,19 @@ module _ (X : Extra) (Y : Way X) (#core : Name) where
     Ends h′ =
         ‵ (fobs γ (B κ′ .coded .code h′)) ∷ ‵ (fbor κ (Body (mem (B κ′)) b o γ)) ∷ ‵ (flft κ q) ∷ tok ∷ []
 
-    module _ (bounds : AllOutlive 2 (lent X Y .signature .outlives) (κ, (κ′, tt)))
-        (a : Denots (E.rows 2 (κ, (κ′, tt)) X)) (x-is : Knowns X (E.out 2 (κ, (κ′, tt)) X a)) where
+    module _ (bounds : AllOutlive 2 (lent X Y .signature .outlives) κs)
+        (a : Denots (E.rows 2 κs X)) (x-is : Knowns X (E.out 2 κs X a)) where
       abbrev x : Values X
-      x = E.out 2 (κ, (κ′, tt)) X a
+      x = E.out 2 κs X a
 
-      abbrev args : Args (lent X Y .signature) (κ, (κ′, tt))
+      abbrev args : Args (lent X Y .signature) κs
       args = (record { ptr = (b, o); name = γ; now = h }, a)
 
-      abbrev vals : Vals (lent X Y .signature) (κ, (κ′, tt))
-      vals = (vptr b o ∷ [], valss (E.rows 2 (κ, (κ′, tt)) X) (E.spells 2 (κ, (κ′, tt)) X) a)
+      abbrev vals : Vals (lent X Y .signature) κs
+      vals = (vptr b o ∷ [], valss (E.rows 2 κs X) (E.spells 2 κs X) a)
 
       abbrev bound : walkOf 𝓤 H A (lent X Y) stayed (lent-clauses X Y 𝓤) .Ghost
-      bound = (((κ, (κ′, tt)), (q, (q′, tt)), bounds, args, vals), tt)
+      bound = ((κs, (q, (q′, tt)), bounds, args, vals), tt)
 
       abbrev Post : Val → SProp 𝓤
       Post = walkOf 𝓤 H A (lent X Y) stayed (lent-clauses X Y 𝓤) .post bound
@@ -119,10 +124,10 @@ module _ (X : Extra) (Y : Way X) (#core : Name) where
       exits r h′ e is =
           qed W (Ends h′) ∵
           suffices ! _ (ends-at 𝓤 H A (lent X Y) stayed (lent-clauses X Y 𝓤) W bound (Y .answer .val r) r
-          (h′, E.lasts 2 (κ, (κ′, tt)) X a) (tt, E.fits 2 (κ, (κ′, tt)) X a)) $ says ! e $
+          (h′, E.lasts 2 κs X a) (tt, E.fits 2 κs X a)) $ says ! e $
           move ! (2 ∷ 3 ∷ []) $ join ! $ frame ! $ feqI ! (List Val) (vptr b o ∷ []) (vptr b o ∷ []) refl $ fjoin3 ! $
-          use0 W (‵ (hasOf (κ, (κ′, tt)) (E.slots 2 X) (E.kepts 2 X) (E.stays 2 X) a (E.lasts 2 (κ, (κ′, tt)) X a)
-          (vals .1))) (E.had-all 𝓤 H A W 2 (κ, (κ′, tt)) X a) $ move ! (1 ∷ 0 ∷ []) $ fjoin ! $ frame ! $
+          use0 W (‵ (hasOf κs (E.slots 2 X) (E.kepts 2 X) (E.stays 2 X) a (E.lasts 2 κs X a)
+          (vals .1))) (E.had-all 𝓤 H A W 2 κs X a) $ move ! (1 ∷ 0 ∷ []) $ fjoin ! $ frame ! $
           owned ! (Y .answer .row) (Is (Y .answer .row)) (Y .answer .makes 𝓤 H A W) r _ is $ done !
 
       -- the call
@@ -161,15 +166,15 @@ module _ (X : Extra) (Y : Way X) (#core : Name) where
       module _ (C : Calls 𝓤 H) (Λ : Loops 𝓤 H) (fm : FmC 𝓤 H (W .laws) C)
           (known : Triple 𝓤 (C #core) (Passed X Y 𝓤 H A)) where
         walk :
-            ent 𝓤 (onEntry 𝓤 H A (lent X Y .signature) (κ, (κ′, tt)) (q, (q′, tt)) args vals)
-            (WpFn 𝓤 H C Λ function (vptr b o ∷ flat (E.rows 2 (κ, (κ′, tt)) X) (vals .1)) Post)
+            ent 𝓤 (onEntry 𝓤 H A (lent X Y .signature) κs (q, (q′, tt)) args vals)
+            (WpFn 𝓤 H C Λ function (vptr b o ∷ flat (E.rows 2 κs X) (vals .1)) Post)
         walk =
-            qed W ((‵ (flft κ q) ⊛ tok) ∷ ‵ (owns (MutRef (named 0) κ (B κ′) ∷ E.rows 2 (κ, (κ′, tt)) X) args vals)
-            ∷ []) ∵ enter ! C Λ function (vptr b o ∷ flat (E.rows 2 (κ, (κ′, tt)) X) (vals .1)) _ $
+            qed W ((‵ (flft κ q) ⊛ tok) ∷ ‵ (owns (MutRef (named 0) κ (B κ′) ∷ E.rows 2 κs X) args vals)
+            ∷ []) ∵ enter ! C Λ function (vptr b o ∷ flat (E.rows 2 κs X) (vals .1)) _ $
             alloc1 ! (λ l₀. alloc1 ! (λ l₁. E.allocs-extra W X (λ bs. alloc1 ! (λ lₛ. alloc1 ! (λ lₖ. alloc1 ! (λ l.
             naming (E.behind 𝓤 H X bs (Temps lₛ lₖ l)) (λ spot. alloc0 ! $ params1 ! $
             pass1 ! (init ! 7 refl (tt, tt)) $ move ! (6 ∷ []) $
-            E.passes-extra W 2 (κ, (κ′, tt)) X bs a x-is (Temps lₛ lₖ l) $
+            E.passes-extra W 2 κs X bs a x-is (Temps lₛ lₖ l) $
             -- the borrow is opened
             move ! (12 ∷ []) $ fsplit ! $ fsplit3 ! $ drop ! $ move ! (14 ∷ []) $ split ! $ move ! (2 ∷ 3 ∷ 0 ∷ []) $
             opens-whole ! tt (reader κ′) h b o (λ was.
