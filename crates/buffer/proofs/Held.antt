@@ -26,9 +26,13 @@ use denote.Struct.Laws as LL
 use denote.Triple.Clauses.{Ended, Clauses, closing}
 use denote.Triple.Spec.{tripleOf}
 use denote.Triple.Statement.{Contract}
+use Rattle.walks.proofs.Extra.{Extra, Values, slots, kepts, out}
 use Rattle.walks.proofs.Operands.{within, found}
 use Rattle.walks.proofs.Plain.{Plain, Pair, struct}
 use Rattle.walks.proofs.Whole.{Whole}
+use Rattle.codes.specs.declared.TokenId.{TokenId}
+use Rattle.codes.proofs.TokenId as I
+use Rattle.codes.proofs.TokenId.Laws as I′
 use Rattle.buffer.specs.declared.ParseBuffer.{ParseBuffer}
 use Rattle.buffer.proofs.ParseBuffer as P
 use Rattle.buffer.proofs.ParseBuffer.Laws as P′
@@ -50,18 +54,20 @@ B = struct P.the-type P′.the-laws P′.the-plain P′.the-copy
 abbrev pub column : RefT (List ℕ) → Val
 column x = sliceVal (x .ptr) (length (x .now))
 
--- What two functions over the record and the columns differ in: what they are passed beside those (node), what they
--- answer, the struct of the answer and the record, what they ask of the record and the columns, and what they promise
--- of these before and after.
-pub record Way : Type 2 where
-  pub node : Plain
+abbrev pub cursor : Plain
+cursor = struct I.the-type I′.the-laws I′.the-plain I′.the-copy
+
+-- What two functions over the record and the columns differ in, beside the parameters X behind the cursor: what they
+-- answer, the struct of the answer and the record, what they ask of the record and the columns, and what they promise of
+-- these before and after.
+pub record Way (X : Extra) : Type 2 where
   pub answer : Plain
   pub step : Pair answer B
-  pub Asks : ParseBuffer → List ℕ → List ℕ → node .row .Denot → Type 0
-  pub Gives : ParseBuffer → List ℕ → List ℕ → node .row .Denot → answer .row .Denot → ParseBuffer → List ℕ → List ℕ →
+  pub Asks : ParseBuffer → List ℕ → List ℕ → Type 0
+  pub Gives : TokenId → ParseBuffer → List ℕ → List ℕ → Values X → answer .row .Denot → ParseBuffer → List ℕ → List ℕ →
       Type 0
 
-module _ (Y : Way) where
+module _ (X : Extra) (Y : Way X) where
   -- the record by value
   abbrev pub passed : Ended
   passed = record {
@@ -69,10 +75,10 @@ module _ (Y : Way) where
       lifetimes = 2;
       outlives = [];
       params = mutSliceOf (0 ∷ []) tt (plain (λ _. u8)) ∷ mutSliceOf (1 ∷ []) tt (plain (λ _. u32)) ∷ plain
-          (λ _. P.the-row) ∷ plain (λ _. Y .node .row) ∷ [];
+          (λ _. I.the-row) ∷ plain (λ _. P.the-row) ∷ slots 2 X;
       result = plain (λ _. Y .step .row);
     };
-    kept = (yes, (yes, (yes, (yes, tt))));
+    kept = (yes, (yes, (yes, (yes, kepts 2 X))));
   }
 
   -- and lent
@@ -82,27 +88,27 @@ module _ (Y : Way) where
       lifetimes = 3;
       outlives = [];
       params = mutRefTo (0 ∷ []) tt (plain (λ _. P.the-row)) ∷ mutSliceOf (1 ∷ []) tt (plain (λ _. u8)) ∷ mutSliceOf
-          (2 ∷ []) tt (plain (λ _. u32)) ∷ plain (λ _. Y .node .row) ∷ [];
+          (2 ∷ []) tt (plain (λ _. u32)) ∷ plain (λ _. I.the-row) ∷ slots 3 X;
       result = plain (λ _. Y .answer .row);
     };
-    kept = (yes, (yes, (yes, (yes, tt))));
+    kept = (yes, (yes, (yes, (yes, kepts 3 X))));
   }
 
   module _ {M : Type 1} (𝓤 : URA M) where
     abbrev pub passed-clauses : Clauses 𝓤 passed
     passed-clauses κs a = record {
       ghost = Unit {0};
-      requires = λ _. fact 𝓤 (Y .Asks (a .1 .1 .0) (now (a .0)) (now (a .1 .0)) (a .1 .1 .1 .0));
-      ensures = λ _ s e. fact 𝓤 (Y .Gives (a .1 .1 .0) (now (a .0)) (now (a .1 .0)) (a .1 .1 .1 .0) (Y .step .fst s)
-          (Y .step .snd s) (now (e .0)) (now (e .1 .0)));
+      requires = λ _. fact 𝓤 (Y .Asks (a .1 .1 .1 .0) (now (a .0)) (now (a .1 .0)));
+      ensures = λ _ s e. fact 𝓤 (Y .Gives (a .1 .1 .0) (a .1 .1 .1 .0) (now (a .0)) (now (a .1 .0)) (out 2 κs X (a .1 .1
+          .1 .1)) (Y .step .fst s) (Y .step .snd s) (now (e .0)) (now (e .1 .0)));
     }
 
     abbrev pub lent-clauses : Clauses 𝓤 lent
     lent-clauses κs a = record {
       ghost = Unit {0};
-      requires = λ _. fact 𝓤 (Y .Asks (now (a .0)) (now (a .1 .0)) (now (a .1 .1 .0)) (a .1 .1 .1 .0));
-      ensures = λ _ r e. fact 𝓤 (Y .Gives (now (a .0)) (now (a .1 .0)) (now (a .1 .1 .0)) (a .1 .1 .1 .0) r (now
-          (e .0)) (now (e .1 .0)) (now (e .1 .1 .0)));
+      requires = λ _. fact 𝓤 (Y .Asks (now (a .0)) (now (a .1 .0)) (now (a .1 .1 .0)));
+      ensures = λ _ r e. fact 𝓤 (Y .Gives (a .1 .1 .1 .0) (now (a .0)) (now (a .1 .0)) (now (a .1 .1 .0)) (out 3 κs X
+          (a .1 .1 .1 .1)) r (now (e .0)) (now (e .1 .0)) (now (e .1 .1 .0)));
     }
 
     module _ (H : Heap 𝓤) (A : Atoms 𝓤) where

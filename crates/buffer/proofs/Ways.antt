@@ -1,17 +1,15 @@
 -- append and patch, and the functions with the record by value, as `Held.antt` has what they differ in.
 use Prim.Native.Nat.{_≤_}
-use Rattle.walks.proofs.Plain.{Plain, Pair, struct, enum}
+use mir.Syntax.{w8, w32}
+use Rattle.walks.proofs.Extra.{none, two}
+use Rattle.walks.proofs.Plain.{Plain, Pair, number, struct, enum}
 use denote.Struct.Laws as LL
-use Rattle.codes.proofs.TokenId as I
-use Rattle.codes.proofs.TokenId.Laws as I′
 use Rattle.codes.proofs.Parsed as A
 use Rattle.codes.proofs.Parsed.Laws as A′
 use Rattle.nodes.proofs.Listed as L
 use Rattle.nodes.proofs.Listed.Laws as L′
 use Rattle.nodes.specs.Answer.{Slots, past}
 use Rattle.buffer.specs.Answer.{Appends, Patches}
-use Rattle.buffer.proofs.Node as N
-use Rattle.buffer.proofs.Node.Laws as N′
 use Rattle.buffer.proofs.Appended as X
 use Rattle.buffer.proofs.Appended.Laws as X′
 use Rattle.buffer.proofs.Patched as Y
@@ -54,20 +52,19 @@ patched = record {
   makes = struct Y.the-type Y′.the-laws Y′.the-plain Y′.the-copy .makes;
 }
 
-abbrev pub appending : Way
+-- the kind and the load
+abbrev pub appending : Way (two (number w8) (number w32))
 appending = record {
-  node = struct N.the-type N′.the-laws N′.the-plain N′.the-copy;
   answer = parsed;
   step = appended;
-  Asks = λ b ks ls n. Slots ks ls (b .count);
-  Gives = λ b ks ls n r b′ ks′ ls′. Appends b ks ls n r b′ ks′ ls′;
+  Asks = λ b ks ls. Slots ks ls (b .count);
+  Gives = λ c b ks ls x r b′ ks′ ls′. Appends (c .0) b ks ls (x .0) (x .1) r b′ ks′ ls′;
 }
 
-abbrev pub patching : Way
+abbrev pub patching : Way none
 patching = record {
-  node = struct I.the-type I′.the-laws I′.the-plain I′.the-copy;
   answer = listed;
   step = patched;
-  Asks = λ b ks ls c. Slots ks ls (b .count) × (past (b .list) ≤ b .count);
-  Gives = λ b ks ls c r b′ ks′ ls′. Patches b ks ls c r b′ ks′ ls′;
+  Asks = λ b ks ls. Slots ks ls (b .count) × (past (b .list) ≤ b .count);
+  Gives = λ c b ks ls x r b′ ks′ ls′. Patches (c .0) b ks ls r b′ ks′ ls′;
 }

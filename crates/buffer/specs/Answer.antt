@@ -4,19 +4,17 @@ use Prim.Native.Nat.{ℕ}
 use mathlib.Core.List.{List}
 use mathlib.Core.Path.{_≡_}
 use Rattle.rules.specs.Columns.{append, pushListItem}
-use Rattle.codes.specs.declared.TokenId.{TokenId}
 use Rattle.codes.specs.declared.Parsed.{Parsed}
-use Rattle.codes.specs.declared.Parsed.the-variants.{Node as Appended, Refused}
+use Rattle.codes.specs.declared.Parsed.the-variants.{Node, Refused}
 use Rattle.codes.specs.Answer.{As, Gives, nodes}
 use Rattle.nodes.specs.declared.Listed.{Listed}
 use Rattle.nodes.specs.declared.Listed.the-variants.{List as Items, Full}
 use Rattle.nodes.specs.Answer.{listed, ends}
-use Rattle.buffer.specs.declared.Node.{Node}
 use Rattle.buffer.specs.declared.ParseBuffer.{ParseBuffer}
 
 -- the record after a node: as many nodes as the answer says; a refusal leaves it as it was
 abbrev pub counted : ParseBuffer → Parsed → ParseBuffer
-counted b (Appended root cursor count) = record { count = count; list = b .list }
+counted b (Node root cursor count) = record { count = count; list = b .list }
 counted b (Refused number start end cursor count) = b
 
 -- the record after an item: as many nodes as the answer says, and its list; a refusal leaves it as it was
@@ -25,11 +23,11 @@ relisted b (Items list cursor count) = record { count = count; list = list }
 relisted b (Full refusal) = b
 
 -- From the record b and the columns ks (kinds) and ls (loads): r is answered, and b′, ks′ and ls′ are left.
-module _ (b : ParseBuffer) (ks ls : List ℕ) where
-  pub record Appends (n : Node) (r : Parsed) (b′ : ParseBuffer) (ks′ ls′ : List ℕ) : Type 0 where
-    pub node : Gives (append (n .kind) (n .load)) (n .cursor .0) (nodes ks ls (b .count)) r ks′ ls′
+module _ (c : ℕ) (b : ParseBuffer) (ks ls : List ℕ) where
+  pub record Appends (kind load : ℕ) (r : Parsed) (b′ : ParseBuffer) (ks′ ls′ : List ℕ) : Type 0 where
+    pub node : Gives (append kind load) c (nodes ks ls (b .count)) r ks′ ls′
     pub buffer : b′ ≡ counted b r
 
-  pub record Patches (c : TokenId) (r : Listed) (b′ : ParseBuffer) (ks′ ls′ : List ℕ) : Type 0 where
-    pub item : As listed (pushListItem (ends (b .list))) (c .0) (nodes ks ls (b .count)) r ks′ ls′
+  pub record Patches (r : Listed) (b′ : ParseBuffer) (ks′ ls′ : List ℕ) : Type 0 where
+    pub item : As listed (pushListItem (ends (b .list))) c (nodes ks ls (b .count)) r ks′ ls′
     pub buffer : b′ ≡ relisted b r

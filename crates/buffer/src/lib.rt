@@ -16,13 +16,6 @@ pub struct ParseBuffer {
     pub list: ActiveList,
 }
 
-// A node that is to be appended: its kind and its load, and the cursor that the answer has.
-pub struct Node {
-    pub kind: u8,
-    pub load: u32,
-    pub cursor: TokenId,
-}
-
 // What is answered for a node, and the record then.
 pub struct Appended {
     pub reply: Parsed,
@@ -71,20 +64,19 @@ fn after_item(buffer: ParseBuffer, reply: Listed) -> ParseBuffer
 }
 
 // A node is appended, with the record by value.
-fn push(node_kinds: &mut [u8], node_loads: &mut [u32], buffer: ParseBuffer, node: Node) -> Appended
+fn push(
+    node_kinds: &mut [u8],
+    node_loads: &mut [u32],
+    cursor: TokenId,
+    buffer: ParseBuffer,
+    kind: u8,
+    load: u32,
+) -> Appended
     requires { ⌜ Slots (now «node_kinds») (now «node_loads») (buffer .count) ⌝ }
-    ensures { λ r. ⌜ Appends buffer (now («node_kinds» .entry)) (now («node_loads» .entry)) node (r .reply) (r .buffer)
-        (now («node_kinds» .exit)) (now («node_loads» .exit)) ⌝ }
+    ensures { λ r. ⌜ Appends (cursor .0) buffer (now («node_kinds» .entry)) (now («node_loads» .entry)) kind
+        load (r .reply) (r .buffer) (now («node_kinds» .exit)) (now («node_loads» .exit)) ⌝ }
 {
-    let cursor = node.cursor;
-    let reply = nodes::push(
-        node_kinds,
-        node_loads,
-        cursor,
-        buffer.count,
-        node.kind,
-        node.load,
-    );
+    let reply = nodes::push(node_kinds, node_loads, cursor, buffer.count, kind, load);
     let after = after_push(buffer, reply);
     Appended {
         reply,
@@ -96,12 +88,12 @@ fn push(node_kinds: &mut [u8], node_loads: &mut [u32], buffer: ParseBuffer, node
 fn push_item(
     node_kinds: &mut [u8],
     node_loads: &mut [u32],
-    buffer: ParseBuffer,
     cursor: TokenId,
+    buffer: ParseBuffer,
 ) -> Patched
     requires { ⌜ Slots (now «node_kinds») (now «node_loads») (buffer .count) × (past (buffer .list) ≤ buffer .count) ⌝ }
-    ensures { λ r. ⌜ Patches buffer (now («node_kinds» .entry)) (now («node_loads» .entry)) cursor (r .reply) (r .buffer)
-        (now («node_kinds» .exit)) (now («node_loads» .exit)) ⌝ }
+    ensures { λ r. ⌜ Patches (cursor .0) buffer (now («node_kinds» .entry)) (now («node_loads» .entry)) (r .reply)
+        (r .buffer) (now («node_kinds» .exit)) (now («node_loads» .exit)) ⌝ }
 {
     let open = buffer.list;
     let reply = nodes::push_list_item(node_kinds, node_loads, cursor, buffer.count, open);
@@ -117,13 +109,15 @@ pub fn append(
     buffer: &mut ParseBuffer,
     node_kinds: &mut [u8],
     node_loads: &mut [u32],
-    node: Node,
+    cursor: TokenId,
+    kind: u8,
+    load: u32,
 ) -> Parsed
     requires { ⌜ Slots (now «node_kinds») (now «node_loads») (now buffer .count) ⌝ }
-    ensures { λ r. ⌜ Appends (now (buffer .entry)) (now («node_kinds» .entry)) (now («node_loads» .entry)) node r
-        (now (buffer .exit)) (now («node_kinds» .exit)) (now («node_loads» .exit)) ⌝ }
+    ensures { λ r. ⌜ Appends (cursor .0) (now (buffer .entry)) (now («node_kinds» .entry)) (now («node_loads» .entry))
+        kind load r (now (buffer .exit)) (now («node_kinds» .exit)) (now («node_loads» .exit)) ⌝ }
 {
-    let appended = push(node_kinds, node_loads, *buffer, node);
+    let appended = push(node_kinds, node_loads, cursor, *buffer, kind, load);
     *buffer = appended.buffer;
     appended.reply
 }
@@ -137,10 +131,10 @@ pub fn patch(
 ) -> Listed
     requires { ⌜ Slots (now «node_kinds») (now «node_loads») (now buffer .count)
         × (past (now buffer .list) ≤ now buffer .count) ⌝ }
-    ensures { λ r. ⌜ Patches (now (buffer .entry)) (now («node_kinds» .entry)) (now («node_loads» .entry)) cursor r
-        (now (buffer .exit)) (now («node_kinds» .exit)) (now («node_loads» .exit)) ⌝ }
+    ensures { λ r. ⌜ Patches (cursor .0) (now (buffer .entry)) (now («node_kinds» .entry)) (now («node_loads» .entry))
+        r (now (buffer .exit)) (now («node_kinds» .exit)) (now («node_loads» .exit)) ⌝ }
 {
-    let patched = push_item(node_kinds, node_loads, *buffer, cursor);
+    let patched = push_item(node_kinds, node_loads, cursor, *buffer);
     *buffer = patched.buffer;
     patched.reply
 }
@@ -149,15 +143,17 @@ pub fn patch(
 pub fn append_to(
     node_kinds: &mut [u8],
     node_loads: &mut [u32],
+    cursor: TokenId,
     buffer: ParseBuffer,
-    node: Node,
+    kind: u8,
+    load: u32,
 ) -> Appended
     requires { ⌜ Slots (now «node_kinds») (now «node_loads») (buffer .count) ⌝ }
-    ensures { λ r. ⌜ Appends buffer (now («node_kinds» .entry)) (now («node_loads» .entry))
-        node (r .reply) (r .buffer) (now («node_kinds» .exit)) (now («node_loads» .exit)) ⌝ }
+    ensures { λ r. ⌜ Appends (cursor .0) buffer (now («node_kinds» .entry)) (now («node_loads» .entry))
+        kind load (r .reply) (r .buffer) (now («node_kinds» .exit)) (now («node_loads» .exit)) ⌝ }
 {
     let mut lent = buffer;
-    let reply = append(&mut lent, node_kinds, node_loads, node);
+    let reply = append(&mut lent, node_kinds, node_loads, cursor, kind, load);
     Appended {
         reply,
         buffer: lent,
@@ -168,12 +164,12 @@ pub fn append_to(
 pub fn patch_in(
     node_kinds: &mut [u8],
     node_loads: &mut [u32],
-    buffer: ParseBuffer,
     cursor: TokenId,
+    buffer: ParseBuffer,
 ) -> Patched
     requires { ⌜ Slots (now «node_kinds») (now «node_loads») (buffer .count) × (past (buffer .list) ≤ buffer .count) ⌝ }
-    ensures { λ r. ⌜ Patches buffer (now («node_kinds» .entry)) (now («node_loads» .entry))
-        cursor (r .reply) (r .buffer) (now («node_kinds» .exit)) (now («node_loads» .exit)) ⌝ }
+    ensures { λ r. ⌜ Patches (cursor .0) buffer (now («node_kinds» .entry)) (now («node_loads» .entry))
+        (r .reply) (r .buffer) (now («node_kinds» .exit)) (now («node_loads» .exit)) ⌝ }
 {
     let mut lent = buffer;
     let reply = patch(&mut lent, node_kinds, node_loads, cursor);

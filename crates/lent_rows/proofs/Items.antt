@@ -60,40 +60,38 @@ module _ (token : ℕ) (list : ActiveList) {c count : ℕ} {ks ls : List ℕ} {r
   }
 
 -- an item by the lent record: the content's answer leaves the record with as many nodes and the same list
-module _ (token : ℕ) {c : TokenId} {b : ParseBuffer} {ks ls : List ℕ} {r₁ : Parsed} {b₁ : ParseBuffer}
-    {ks₁ ls₁ : List ℕ}
-    (g : Appends b ks ls (record { kind = ParseNode.UntypedIntegerLiteral; load = token; cursor = c }) r₁ b₁ ks₁ ls₁)
-  where
-    pub record-refused :
-        {x : ℕ} {a e p : TokenId} {j : ℕ} → r₁ ≡ Refused x a e p j →
-        Item token (c .0) (b .count) (b .list) ks ls (Full r₁) ks₁ ls₁
-    record-refused q = content-refused token (b .list) (g .node) q
+module _ (token : ℕ) {c : ℕ} {b : ParseBuffer} {ks ls : List ℕ} {r₁ : Parsed} {b₁ : ParseBuffer} {ks₁ ls₁ : List ℕ}
+    (g : Appends c b ks ls ParseNode.UntypedIntegerLiteral token r₁ b₁ ks₁ ls₁) where
+  pub record-refused :
+      {x : ℕ} {a e p : TokenId} {j : ℕ} → r₁ ≡ Refused x a e p j →
+      Item token c (b .count) (b .list) ks ls (Full r₁) ks₁ ls₁
+  record-refused q = content-refused token (b .list) (g .node) q
 
-    module _ {a : NodeId} {p : TokenId} {j : ℕ} (q : r₁ ≡ Node a p j) (z : Fits (b .count) (b .list) ks ls) where
-      counts : b₁ ≡ record { count = j; list = b .list }
-      counts = g .buffer ∙ ap (counted b) q
+  module _ {a : NodeId} {p : TokenId} {j : ℕ} (q : r₁ ≡ Node a p j) (z : Fits (b .count) (b .list) ks ls) where
+    counts : b₁ ≡ record { count = j; list = b .list }
+    counts = g .buffer ∙ ap (counted b) q
 
-      pub record-slots : Slots ks₁ ls₁ (b₁ .count)
-      record-slots =
-          subst (λ (x : ParseBuffer). Slots ks₁ ls₁ (x .count)) (sym counts) (core-slots token (b .list) (g .node) q z)
+    pub record-slots : Slots ks₁ ls₁ (b₁ .count)
+    record-slots =
+        subst (λ (x : ParseBuffer). Slots ks₁ ls₁ (x .count)) (sym counts) (core-slots token (b .list) (g .node) q z)
 
-      pub record-last : past (b₁ .list) ≤ b₁ .count
-      record-last =
-          subst (λ (x : ParseBuffer). past (x .list) ≤ x .count) (sym counts) (core-last token (b .list) (g .node) q z)
+    pub record-last : past (b₁ .list) ≤ b₁ .count
+    record-last =
+        subst (λ (x : ParseBuffer). past (x .list) ≤ x .count) (sym counts) (core-last token (b .list) (g .node) q z)
 
-      pub record-read :
-          {r : Listed} {b₂ : ParseBuffer} {ks₂ ls₂ : List ℕ} → Patches b₁ ks₁ ls₁ p r b₂ ks₂ ls₂ →
-          Item token (c .0) (b .count) (b .list) ks ls r ks₂ ls₂
-      record-read {r} {ks₂ = ks₂} {ls₂} h =
-          content-read token (b .list) (g .node) q z
-          (subst (λ (y : ParseBuffer). As listed (pushListItem (ends (y .list))) (p .0) (nodes ks₁ ls₁ (y .count)) r ks₂
-          ls₂)
-          counts (h .item))
+    pub record-read :
+        {r : Listed} {b₂ : ParseBuffer} {ks₂ ls₂ : List ℕ} → Patches (p .0) b₁ ks₁ ls₁ r b₂ ks₂ ls₂ →
+        Item token c (b .count) (b .list) ks ls r ks₂ ls₂
+    record-read {r} {ks₂ = ks₂} {ls₂} h =
+        content-read token (b .list) (g .node) q z
+        (subst (λ (y : ParseBuffer). As listed (pushListItem (ends (y .list))) (p .0) (nodes ks₁ ls₁ (y .count)) r ks₂
+        ls₂)
+        counts (h .item))
 
 -- the record after an item
 pub records :
-    {c : TokenId} {b : ParseBuffer} {ks ls : List ℕ} {r : Listed} {b′ : ParseBuffer} {ks′ ls′ : List ℕ} →
-    Patches b ks ls c r b′ ks′ ls′ → Records r b′
+    {c : ℕ} {b : ParseBuffer} {ks ls : List ℕ} {r : Listed} {b′ : ParseBuffer} {ks′ ls′ : List ℕ} →
+    Patches c b ks ls r b′ ks′ ls′ → Records r b′
 records {b = b} h = record { after = λ e. h .buffer ∙ ap (relisted b) e }
 
 pub no-record : (f : Parsed) (b : ParseBuffer) → Records (Full f) b

@@ -5,7 +5,6 @@ ghost use Rattle.codes.specs.Answer.{Gives, nodes};
 ghost use mathlib.Core.Option.{none};
 ghost use Rattle.nodes.specs.Answer.{Slots, ends};
 ghost use Rattle.lent_rows.specs.Lists.{items, Fits, Item, Records};
-use buffer::Node;
 use buffer::ParseBuffer;
 use buffer::Patched;
 use codes::ParseNode;
@@ -28,12 +27,7 @@ fn item_by_record(
     ensures buffer { λ r. ⌜ Records (r .reply) (r .buffer) ⌝ }
 {
     let kind = ParseNode::UntypedIntegerLiteral;
-    let node = Node {
-        kind,
-        load: token,
-        cursor,
-    };
-    let content = buffer::append_to(node_kinds, node_loads, buffer, node);
+    let content = buffer::append_to(node_kinds, node_loads, cursor, buffer, kind, token);
     let reply = content.reply;
     let after = content.buffer;
     let Parsed::Node {
@@ -47,7 +41,7 @@ fn item_by_record(
             buffer: after,
         };
     };
-    buffer::patch_in(node_kinds, node_loads, after, next)
+    buffer::patch_in(node_kinds, node_loads, next, after)
 }
 
 // The same by the core.

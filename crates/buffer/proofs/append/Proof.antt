@@ -13,5 +13,5 @@ pub append-spec : {M : Type 1} → statement M
 unfolding code.routine
 append-spec 𝓤 H 𝓜 𝓖 𝓡 =
     told 𝓤 H 𝓜 𝓡 code.env _ #buffer·append code.function (code.unfolded 𝓤 H 𝓜 𝓡) (λ 𝓣 cite.
-    changes appending push.name 𝓤 H (𝓖 .A) (givenOf 𝓤 H 𝓜 𝓖) 𝓣 (cite _ push.name push.routine code.calls-buffer·push
+    changes _ appending push.name 𝓤 H (𝓖 .A) (givenOf 𝓤 H 𝓜 𝓖) 𝓣 (cite _ push.name push.routine code.calls-buffer·push
     (push-thm.met 𝓤 H 𝓜 𝓖 𝓡)))

@@ -13,5 +13,5 @@ pub append-to-spec : {M : Type 1} → statement M
 unfolding code.routine
 append-to-spec 𝓤 H 𝓜 𝓖 𝓡 =
     told 𝓤 H 𝓜 𝓡 code.env _ #buffer·append-to code.function (code.unfolded 𝓤 H 𝓜 𝓡) (λ 𝓣 cite.
-    returned appending append.name 𝓤 H (𝓖 .A) (givenOf 𝓤 H 𝓜 𝓖) 𝓣 (cite _ append.name append.routine
+    returned _ appending append.name 𝓤 H (𝓖 .A) (givenOf 𝓤 H 𝓜 𝓖) 𝓣 (cite _ append.name append.routine
     code.calls-buffer·append (append-thm.met 𝓤 H 𝓜 𝓖 𝓡)))

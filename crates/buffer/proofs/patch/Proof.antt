@@ -13,5 +13,5 @@ pub patch-spec : {M : Type 1} → statement M
 unfolding code.routine
 patch-spec 𝓤 H 𝓜 𝓖 𝓡 =
     told 𝓤 H 𝓜 𝓡 code.env _ #buffer·patch code.function (code.unfolded 𝓤 H 𝓜 𝓡) (λ 𝓣 cite.
-    changes patching push-item.name 𝓤 H (𝓖 .A) (givenOf 𝓤 H 𝓜 𝓖) 𝓣 (cite _ push-item.name push-item.routine
+    changes _ patching push-item.name 𝓤 H (𝓖 .A) (givenOf 𝓤 H 𝓜 𝓖) 𝓣 (cite _ push-item.name push-item.routine
     code.calls-buffer·push-item (push-item-thm.met 𝓤 H 𝓜 𝓖 𝓡)))

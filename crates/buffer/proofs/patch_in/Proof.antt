@@ -13,5 +13,5 @@ pub patch-in-spec : {M : Type 1} → statement M
 unfolding code.routine
 patch-in-spec 𝓤 H 𝓜 𝓖 𝓡 =
     told 𝓤 H 𝓜 𝓡 code.env _ #buffer·patch-in code.function (code.unfolded 𝓤 H 𝓜 𝓡) (λ 𝓣 cite.
-    returned patching patch.name 𝓤 H (𝓖 .A) (givenOf 𝓤 H 𝓜 𝓖) 𝓣 (cite _ patch.name patch.routine
+    returned _ patching patch.name 𝓤 H (𝓖 .A) (givenOf 𝓤 H 𝓜 𝓖) 𝓣 (cite _ patch.name patch.routine
     code.calls-buffer·patch (patch-thm.met 𝓤 H 𝓜 𝓖 𝓡)))
