@@ -245,10 +245,12 @@ module _ (X : Extra) (Y : Way X) (#core : Name) where
           calls-at ! fm (Passed X Y 𝓤 H A) known to (and-then ! (load ! (within ! (spot 2) (stop !)) (look ! 14 refl))
           (and-then ! (load ! (within ! (spot 4) (stop !)) (look ! 10 refl)) (and-then ! (local ! 20 refl)
           (and-then ! (load ! (within ! (spot 5) (stop !)) (look ! 8 refl))
-          (E.reads-extra W 2 (κ₁, (κ₂, tt)) 5 7 X bs x refl (E.shifts 𝓤 H X bs (Y .answer .mir, i₀) _ 4 (E.shifts 𝓤 H X
-          bs (ref-type, i₁) _ 3 (E.shifts 𝓤 H X bs (sliceTy (tyRef (named 1) mut (tyInt w8)), i₂) _ 2 (E.shifts 𝓤 H X bs
-          (sliceTy (tyRef (named 2) mut (tyInt w32)), i₃) _ 1 (E.shifts 𝓤 H X bs (cursor .mir, i₄) _ 0 (E.spots 𝓤 H X bs
-          (Temps lₛ l₁ l₂ l₃ l₄ l)))))))))))) (λ u.
+          (E.reads-extra W 2 (κ₁, (κ₂, tt)) 5 7 X bs x refl (E.spots 𝓤 H X bs ((Y .answer .mir, i₀) ∷ (ref-type, i₁)
+          ∷ (sliceTy (tyRef (named 1) mut (tyInt w8)), i₂) ∷ (sliceTy (tyRef (named 2) mut (tyInt w32)), i₃) ∷ (
+            cursor
+                .mir,
+            i₄,
+          ) ∷ []) (Temps lₛ l₁ l₂ l₃ l₄ l))))))) (λ u.
           use1 W (later (some (λ (s : Y .step .row .Denot). (toks ⊛ ‵ (Y .step .row .own s (u ∷ [])))
           ⊛ raw (ensured 𝓤 H A (passed X Y) (passed-clauses X Y 𝓤) (κ₁, (κ₂, tt)) given tt s)))) (id⊢ 𝓤 _) $
           await ! tt $ pick ! (λ s. split ! $ move ! (1 ∷ []) $

@@ -243,13 +243,12 @@ module _ (X : Extra) (Y : Way X) (#core : Name) where
           calls-at ! fm (Lent X Y 𝓤 H A) known (to lₜ ν γ) (and-then ! (load ! (within ! (spot 2) (stop !))
           (look ! 14 refl)) (and-then ! (load ! (within ! (spot 4) (stop !)) (look ! 10 refl))
           (and-then ! (load ! (within ! (spot 6) (stop !)) (look ! 6 refl)) (and-then ! (local ! 21 refl)
-          (E.reads-extra W 3 (lfts lₜ ν γ) 5 3 X bs x refl (E.shifts 𝓤 H X bs (mirOf (Y .step), i₀) _ 4 (E.shifts 𝓤 H X
-          bs (sliceTy (tyRef (named 0) mut (tyInt w8)), i₁) _ 3 (E.shifts 𝓤 H X bs (
-            sliceTy (tyRef (named 1) mut (tyInt
-                w32)),
-            i₂,
-          ) _ 2 (E.shifts 𝓤 H X bs (cursor .mir, i₃) _ 1 (E.shifts 𝓤 H X bs (P′.mir, i₄) _ 0 (E.spots 𝓤 H X bs
-          (Temps lₜ lₐ lᵣ l₁ l₂ l₃ l₄ l)))))))))))) (λ u.
+          (E.reads-extra W 3 (lfts lₜ ν γ) 5 3 X bs x refl (E.spots 𝓤 H X bs ((mirOf (Y .step), i₀) ∷ (
+            sliceTy (tyRef
+                (named 0) mut (tyInt w8)),
+            i₁,
+          ) ∷ (sliceTy (tyRef (named 1) mut (tyInt w32)), i₂) ∷ (cursor .mir, i₃) ∷
+          (P′.mir, i₄) ∷ []) (Temps lₜ lₐ lᵣ l₁ l₂ l₃ l₄ l))))))) (λ u.
           use1 W (later (some (λ (r : Y .answer .row .Denot). ((‵ (flft (ν ∷ []) fullShare) ⊛ toks) ⊛ ‵ (Y .answer
           .row .own r (u ∷ []))) ⊛ raw (ensured 𝓤 H A (lent X Y) (lent-clauses X Y 𝓤) (lfts lₜ ν γ) (given lₜ ν γ) tt
           r)))) (id⊢ 𝓤 _) $ await ! tt $ pick ! (λ r. split ! $ move ! (1 ∷ []) $

@@ -292,9 +292,8 @@ module _ (μ : Mutability) (X : Extra) (Y : Way X) (g : Asking) (#new #f : Name)
           -- for _0; …]
           lends κ q lₜ h (subst (Asked g) (sym (e .2)) may) x₀ a-is _ _ _ _ _ _ (λ n κs i j. and-then !
           (load ! (within ! (spot 3) (stop !)) (look ! 7 refl))
-          (E.reads-extra W n κs 4 4 X bs x₀ refl (E.shifts 𝓤 H X bs (mirOf (Y .step), l₀) _ 3 (E.shifts 𝓤 H X bs
-          (kinds-type, l₁) _ 2 (E.shifts 𝓤 H X bs (kinds-type, l₂) _ 1 (E.shifts 𝓤 H X bs (cursor .mir, l₃) _ 0
-          (E.spots 𝓤 H X bs (Temps lₜ lₐ lₙ lᵣ l)))))))) (λ v r h′ e′.
+          (E.reads-extra W n κs 4 4 X bs x₀ refl (E.spots 𝓤 H X bs ((mirOf (Y .step), l₀) ∷ (kinds-type, l₁) ∷
+          (kinds-type, l₂) ∷ (cursor .mir, l₃) ∷ []) (Temps lₜ lₐ lₙ lᵣ l)))) (λ v r h′ e′.
           peeks ! (Y .answer .row) (Is (Y .answer .row)) (shows 𝓤 H A (Y .answer .row)) r (v ∷ []) (λ is′.
           land ! (within ! (spot 1) (stop !))
           (init ! 13 refl (Y .answer .typed 𝓤 H A W r v is′)) $

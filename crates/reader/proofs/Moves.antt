@@ -193,8 +193,8 @@ module _ (X : Extra) (Y : Way X) (#core : Name) where
             calls-at ! fm (Passed X Y 𝓤 H A) known to
             (and-then ! (load ! (within ! (spot 1) (stop !)) (look ! 10 refl))
             (and-then ! (load ! (within ! (spot 2) (stop !)) (look ! 8 refl))
-            (E.reads-extra W 1 (κ′, tt) 2 7 X bs x refl (E.shifts 𝓤 H X bs (Y .answer .mir, l₀) _ 1 (E.shifts 𝓤 H X bs
-            (ref-type, l₁) _ 0 (E.spots 𝓤 H X bs (Temps lₛ lₖ l))))))) (λ u.
+            (E.reads-extra W 1 (κ′, tt) 2 7 X bs x refl (E.spots 𝓤 H X bs ((Y .answer .mir, l₀) ∷ (ref-type, l₁) ∷
+            []) (Temps lₛ lₖ l))))) (λ u.
             use1 W (later (some (λ (s : Y .step .row .Denot). (tok ⊛ ‵ (Y .step .row .own s (u ∷ [])))
             ⊛ raw (ensured 𝓤 H A (passed X Y) (passed-clauses X Y 𝓤) (κ′, tt) given tt s)))) (id⊢ 𝓤 _) $
             await ! tt $ pick ! (λ s. split ! $ move ! (1 ∷ []) $
