@@ -278,7 +278,8 @@ module _ (X : Extra) (Y : Way X) (#core : Name) where
           gone ! 22 refl refl $ move ! (9 ∷ []) $ E.frees-extra W X bs x $ gone ! 19 refl refl $ gone ! 17 refl refl $
           gone ! 15 refl refl $ gone ! 13 refl refl $ gone ! 11 refl refl $ gone ! 9 refl refl $ free0 ! $
           keep ! (0 ∷ 1 ∷ 2 ∷ 3 ∷ 4 ∷ 6 ∷ []) $
-          by ! (exits (Y .step .fst s) (Y .step .snd s) (ws .0) (ws .1 .0) (subst (λ (z : Values X). Y .Gives c h (ks .now)
+          by ! (exits (Y .step .fst s) (Y .step .snd s) (ws .0) (ws .1 .0) (subst (λ (z : Values X).
+          Y .Gives c h (ks .now)
           (ls .now) z (Y .step .fst s) (Y .step .snd s) (ws .0) (ws .1 .0)) (E.out-args 2 (κ₁, (κ₂, tt)) X x) e) m₁ m₂
           (Y .step .parts s _ is .0))))))))))))))))))))))
 
