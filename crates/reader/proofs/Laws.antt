@@ -1,5 +1,5 @@
 -- The reader's answers from those of crate tokens.
-use mathlib.Core.Path.{refl}
+use mathlib.Core.Path.{refl, ap, subst}
 use mathlib.Core.Bool.{Bool, true, false}
 use mathlib.Core.List.{List}
 use Prim.Native.Nat.{ℕ, _+_, _≤_}
@@ -15,8 +15,8 @@ use Rattle.tokens.specs.declared.Consumed.{Consumed}
 use Rattle.tokens.specs.declared.Optional.{Optional}
 use Rattle.tokens.specs.Answer.{kindIn, consumed, consuming, Optionally}
 use Rattle.tokens.proofs.Laws.{optioned}
-use Rattle.reader.specs.declared.Expecting.{Expecting}
-use Rattle.reader.specs.Answer.{ending, Expects}
+use Rattle.reader.specs.declared.Tokens.{Tokens}
+use Rattle.reader.specs.Answer.{kindsOf, place, ending, Tries, Expects, Consumes}
 
 -- the cursor goes on by one, whether the token is of the kind expected or not
 pub expects :
@@ -24,6 +24,10 @@ pub expects :
     Expects ks k n c (record { answer = r; cursor = token (c + 1) })
 unfolding consume
 expects k e = record { answer = e; cursor = refl }
+
+-- the number of a token is at most one past the last
+pub more : {c : ℕ} → c ≤ Most.Tokens → c ≤ Most.Tokens + 1
+more h = omega arith
 
 -- a token that may stand there takes the cursor at most one further
 at-most : (b : Bool) (c : ℕ) → pick b (c + 1) c ≤ c + 1
@@ -36,7 +40,11 @@ unfolding optional
 optional-within {ks} {k} {c} g h =
     let m = at-most (eqb (kindIn ks c) k) c in omega (arith, rw (← g .cursor) at m, h)
 
--- an optional comma, and then the token that closes a list: by the core's answers, and by those of readers
+pub tried-within :
+    {t t′ : Tokens} {k : ℕ} {b : Bool} → Tries t k b t′ → place t ≤ Most.Tokens → place t′ ≤ Most.Tokens + 1
+tried-within g h = optional-within (g .tried) h
+
+-- an optional comma, and then the token that closes a list: by the core's answers, and by the reader's
 pub ends-core :
     (k : ℕ) {ks : List ℕ} {c n : ℕ} {o : Optional} {r : Consumed} → Optionally ks BaseToken.Comma c o →
     Quiet consumed (consuming k) ks (o .cursor .0) n r → Quiet consumed (ending k) ks c n r
@@ -44,6 +52,8 @@ unfolding ending consuming
 ends-core k g h = record { run = λ tv ks ls. shows (reads _ (optioned g tv)) (h .run tv ks ls) }
 
 pub ends :
-    {ks : List ℕ} (k : ℕ) {c n : ℕ} {o : Optional} {r : Expecting} → Optionally ks BaseToken.Comma c o →
-    Expects ks k n (o .cursor .0) r → Quiet consumed (ending k) ks c n (r .answer)
-ends k g h = ends-core k g (h .answer)
+    {t t′ t″ : Tokens} (k n : ℕ) {b : Bool} {r : Consumed} → Tries t BaseToken.Comma b t′ → Consumes t′ k n r t″ →
+    Quiet consumed (ending k) (kindsOf t) (place t) n r
+ends {t′ = t′} k n {r = r} g h =
+    ends-core k (g .tried)
+    (subst (λ (ts : List ℕ). Quiet consumed (consuming k) ts (place t′) n r) (ap kindsOf (g .row)) (h .answer))

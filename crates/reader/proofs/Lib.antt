@@ -1,3 +1,4 @@
+pub mod Above
 pub mod Forms
 pub mod Held
 pub mod Laws

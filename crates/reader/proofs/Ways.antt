@@ -17,7 +17,7 @@ use Rattle.reader.proofs.Expecting as X
 use Rattle.reader.proofs.Expecting.Laws as X′
 use Rattle.reader.proofs.Forms.{Way, cursor}
 
-abbrev consumed : Plain
+abbrev pub consumed : Plain
 consumed = enum C.the-type C′.the-laws tt C′.the-plain C′.the-copy
 
 abbrev taken : Pair (number w8) cursor

@@ -5,12 +5,11 @@ ghost use mathlib.Core.Path.{_≡_};
 ghost use Prim.Native.Nat.{_+_, _≤_};
 ghost use Rattle.rules.specs.Codes.Limit as Most;
 ghost use Rattle.codes.specs.Answer.{Quiet};
-ghost use Rattle.tokens.specs.Answer.{kindIn, consumed, Taking, Optionally};
+ghost use Rattle.tokens.specs.Answer.{kindIn, consumed, Taking};
 ghost use Rattle.reader.specs.Answer.{kindsOf, place, ending, Looks, Takes, Tries, Expects, Consumes};
 use codes::BaseToken;
 use codes::TokenId;
 use tokens::Consumed;
-use tokens::Optional;
 use tokens::Taken;
 
 // The row, by its kinds and its value types, and the cursor.
@@ -112,44 +111,7 @@ pub fn take_at<'a>(kinds: &'a [u8], types: &'a [u8], cursor: TokenId) -> Taken
     }
 }
 
-// The token at the cursor is taken where it is of the kind expected, likewise.
-pub fn consume_optional_at<'a>(
-    kinds: &'a [u8],
-    types: &'a [u8],
-    cursor: TokenId,
-    expected: u8,
-) -> Optional
-    requires { ⌜ cursor .0 ≤ Most.Tokens + 1 ⌝ }
-    ensures { λ r. ⌜ Optionally (now (kinds .entry)) expected (cursor .0) r ⌝ }
-{
-    let mut reader = new(kinds, types, cursor);
-    let found = consume_optional(&mut reader, expected);
-    Optional {
-        found,
-        cursor: reader.cursor,
-    }
-}
-
-// The token at the cursor is taken, and refused where it is not of the kind expected, likewise.
-pub fn consume_at<'a>(
-    kinds: &'a [u8],
-    types: &'a [u8],
-    cursor: TokenId,
-    count: u32,
-    expected: u8,
-) -> Expecting
-    requires { ⌜ cursor .0 ≤ Most.Tokens + 1 ⌝ }
-    ensures { λ r. ⌜ Expects (now (kinds .entry)) expected count (cursor .0) r ⌝ }
-{
-    let mut reader = new(kinds, types, cursor);
-    let answer = consume(&mut reader, count, expected);
-    Expecting {
-        answer,
-        cursor: reader.cursor,
-    }
-}
-
-// A comma may stand at the cursor, and then the token that closes a list must, by readers.
+// A comma may stand at the cursor, and then the token that closes a list must, by a reader.
 pub fn consume_end<'a>(
     kinds: &'a [u8],
     types: &'a [u8],
@@ -160,8 +122,7 @@ pub fn consume_end<'a>(
     requires { ⌜ cursor .0 ≤ Most.Tokens ⌝ }
     ensures { λ r. ⌜ Quiet consumed (ending closing) (now (kinds .entry)) (cursor .0) count r ⌝ }
 {
-    let optional = consume_optional_at(kinds, types, cursor, BaseToken::Comma);
-    let next = optional.cursor;
-    let expecting = consume_at(kinds, types, next, count, closing);
-    expecting.answer
+    let mut reader = new(kinds, types, cursor);
+    consume_optional(&mut reader, BaseToken::Comma);
+    consume(&mut reader, count, closing)
 }

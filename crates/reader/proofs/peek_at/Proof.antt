@@ -112,7 +112,7 @@ pub peek-at-spec : {M : Type 1} → statement M
 unfolding code.routine
 peek-at-spec 𝓤 H 𝓜 𝓖 𝓡 =
     told 𝓤 H 𝓜 𝓡 code.env _ #reader·peek-at code.function (code.unfolded 𝓤 H 𝓜 𝓡) (λ 𝓣 cite.
-    made-and-lent imm none peeking free new.name peek-def.name 𝓤 H (𝓖 .A) (givenOf 𝓤 H 𝓜 𝓖) (𝓜 .mem) (𝓡 .run) 𝓣
+    made-and-lent imm peeking free new.name peek-def.name 𝓤 H (𝓖 .A) (givenOf 𝓤 H 𝓜 𝓖) (𝓜 .mem) (𝓡 .run) 𝓣
     (cite _ new.name new.routine code.calls-reader·new (new-thm.met 𝓤 H 𝓜 𝓖 𝓡)) (λ fm.
     λ κ q l h may x is. lends-shr (givenOf 𝓤 H 𝓜 𝓖) (𝓜 .mem) (𝓡 .run) (𝓣 .C) (𝓣 .Λ) fm (cite _ peek-def.name
     peek-def.routine code.calls-reader·peek (peek-thm.met 𝓤 H 𝓜 𝓖 𝓡)) κ q l h))
