@@ -1,2 +1,5 @@
+pub mod Changed
 pub mod Held
 pub mod Laws
+pub mod Lending
+pub mod Ways

@@ -1,6 +1,6 @@
 // The node count and the open list in one record, which is lent to append and patch, after the Rust's &mut ParseBuffer.
-// Each takes the record apart, calls the function of crate nodes, and stores what that leaves. A caller that has the
-// record by value uses the functions at the end.
+// Each calls a function with the record by value, above the function of crate nodes, and stores what that leaves. A
+// caller that has the record by value uses the functions at the end.
 ghost use mathlib.Core.Path.{_≡_};
 ghost use Prim.Native.Nat.{_≤_};
 ghost use Rattle.nodes.specs.Answer.{Slots, past};
@@ -63,6 +63,47 @@ fn after_item(buffer: ParseBuffer, reply: Listed) -> ParseBuffer
     }
 }
 
+// A node is appended, with the record by value.
+fn push(
+    node_kinds: &mut [u8],
+    node_loads: &mut [u32],
+    cursor: TokenId,
+    buffer: ParseBuffer,
+    kind: u8,
+    load: u32,
+) -> Appended
+    requires { ⌜ Slots (now «node_kinds») (now «node_loads») (buffer .count) ⌝ }
+    ensures { λ r. ⌜ Appends (cursor .0) buffer (now («node_kinds» .entry)) (now («node_loads» .entry)) kind
+        load (r .reply) (r .buffer) (now («node_kinds» .exit)) (now («node_loads» .exit)) ⌝ }
+{
+    let reply = nodes::push(node_kinds, node_loads, cursor, buffer.count, kind, load);
+    let after = after_push(buffer, reply);
+    Appended {
+        reply,
+        buffer: after,
+    }
+}
+
+// An item is appended after its content, unfinished, and the one before it is patched, with the record by value.
+fn push_item(
+    node_kinds: &mut [u8],
+    node_loads: &mut [u32],
+    cursor: TokenId,
+    buffer: ParseBuffer,
+) -> Patched
+    requires { ⌜ Slots (now «node_kinds») (now «node_loads») (buffer .count) × (past (buffer .list) ≤ buffer .count) ⌝ }
+    ensures { λ r. ⌜ Patches (cursor .0) buffer (now («node_kinds» .entry)) (now («node_loads» .entry)) (r .reply)
+        (r .buffer) (now («node_kinds» .exit)) (now («node_loads» .exit)) ⌝ }
+{
+    let open = buffer.list;
+    let reply = nodes::push_list_item(node_kinds, node_loads, cursor, buffer.count, open);
+    let after = after_item(buffer, reply);
+    Patched {
+        reply,
+        buffer: after,
+    }
+}
+
 // A node is appended.
 pub fn append(
     buffer: &mut ParseBuffer,
@@ -76,10 +117,9 @@ pub fn append(
     ensures { λ r. ⌜ Appends (cursor .0) (now (buffer .entry)) (now («node_kinds» .entry)) (now («node_loads» .entry))
         kind load r (now (buffer .exit)) (now («node_kinds» .exit)) (now («node_loads» .exit)) ⌝ }
 {
-    let before = *buffer;
-    let reply = nodes::push(node_kinds, node_loads, cursor, before.count, kind, load);
-    *buffer = after_push(before, reply);
-    reply
+    let appended = push(node_kinds, node_loads, cursor, *buffer, kind, load);
+    *buffer = appended.buffer;
+    appended.reply
 }
 
 // An item is appended after its content, unfinished, and the one before it is patched.
@@ -94,10 +134,9 @@ pub fn patch(
     ensures { λ r. ⌜ Patches (cursor .0) (now (buffer .entry)) (now («node_kinds» .entry)) (now («node_loads» .entry))
         r (now (buffer .exit)) (now («node_kinds» .exit)) (now («node_loads» .exit)) ⌝ }
 {
-    let before = *buffer;
-    let reply = nodes::push_list_item(node_kinds, node_loads, cursor, before.count, before.list);
-    *buffer = after_item(before, reply);
-    reply
+    let patched = push_item(node_kinds, node_loads, cursor, *buffer);
+    *buffer = patched.buffer;
+    patched.reply
 }
 
 // A node is appended with a record that is passed and returned by value.

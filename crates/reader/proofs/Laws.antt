@@ -1,43 +1,33 @@
 -- The reader's answers from those of crate tokens.
-use mathlib.Core.Path.{_≡_, refl, ap, subst}
+use mathlib.Core.Path.{refl, ap, subst}
 use mathlib.Core.Bool.{Bool, true, false}
 use mathlib.Core.List.{List}
-use Prim.Native.Nat.{ℕ, _+_, _≤_, _<_, _^_}
+use Prim.Native.Nat.{ℕ, _+_, _≤_}
 use native.Mathlib.Omega.{arith}
 use lib.Dec.{eqb}
 use Rattle.rules.specs.Codes.{pick}
 use Rattle.rules.specs.Codes.BaseToken as BaseToken
 use Rattle.rules.specs.Codes.Limit as Most
-use Rattle.rules.specs.Reading.{ok, take, consume, optional}
+use Rattle.rules.specs.Reading.{consume, optional}
 use Rattle.codes.specs.Answer.{Quiet, token}
 use Rattle.codes.proofs.Onto.{reads, shows}
 use Rattle.tokens.specs.declared.Consumed.{Consumed}
 use Rattle.tokens.specs.declared.Optional.{Optional}
-use Rattle.tokens.specs.Answer.{kindIn, consumed, consuming, Taking, Optionally}
+use Rattle.tokens.specs.Answer.{kindIn, consumed, consuming, Optionally}
 use Rattle.tokens.proofs.Laws.{optioned}
 use Rattle.reader.specs.declared.Tokens.{Tokens}
-use Rattle.reader.specs.Answer.{moved, kindsOf, place, ending, Takes, Tries, Consumes}
+use Rattle.reader.specs.Answer.{kindsOf, place, ending, Tries, Expects, Consumes}
 
--- the next token has a number
-pub next-fits : {c : ℕ} → c ≤ Most.Tokens + 1 → c + 1 < 2 ^ 32
-next-fits h = omega arith
+-- the cursor goes on by one, whether the token is of the kind expected or not
+pub expects :
+    {ks : List ℕ} (k : ℕ) {n c : ℕ} {r : Consumed} → Quiet consumed (consuming k) ks c n r →
+    Expects ks k n c (record { answer = r; cursor = token (c + 1) })
+unfolding consume
+expects k e = record { answer = e; cursor = refl }
 
+-- the number of a token is at most one past the last
 pub more : {c : ℕ} → c ≤ Most.Tokens → c ≤ Most.Tokens + 1
 more h = omega arith
-
--- the token is taken, of the kind expected or not
-pub consumes :
-    (t : Tokens) {k n : ℕ} {r : Consumed} → Quiet consumed (consuming k) (kindsOf t) (place t) n r →
-    Consumes t k n r (moved t (token (place t + 1)))
-unfolding consume
-consumes t e = record { reader = refl; answer = e }
-
--- a token is looked at, and then taken
-pub peeked :
-    {t t′ : Tokens} {k m : ℕ} → k ≡ kindIn (kindsOf t) (place t) → Takes t m t′ →
-    Taking (kindsOf t) (place t) (record { kind = k; cursor = t′ .cursor })
-unfolding take
-peeked e g = record { kind = ap ok e; cursor = g .taken .cursor }
 
 -- a token that may stand there takes the cursor at most one further
 at-most : (b : Bool) (c : ℕ) → pick b (c + 1) c ≤ c + 1
@@ -62,8 +52,8 @@ unfolding ending consuming
 ends-core k g h = record { run = λ tv ks ls. shows (reads _ (optioned g tv)) (h .run tv ks ls) }
 
 pub ends :
-    {t t′ t″ : Tokens} {k n : ℕ} {b : Bool} {r : Consumed} → Tries t BaseToken.Comma b t′ → Consumes t′ k n r t″ →
+    {t t′ t″ : Tokens} (k n : ℕ) {b : Bool} {r : Consumed} → Tries t BaseToken.Comma b t′ → Consumes t′ k n r t″ →
     Quiet consumed (ending k) (kindsOf t) (place t) n r
-ends {t′ = t′} {k = k} {n} {r = r} g h =
+ends {t′ = t′} k n {r = r} g h =
     ends-core k (g .tried)
     (subst (λ (ts : List ℕ). Quiet consumed (consuming k) ts (place t′) n r) (ap kindsOf (g .row)) (h .answer))

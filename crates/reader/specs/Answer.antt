@@ -10,7 +10,9 @@ use Rattle.rules.specs.Reading.{Row, Rule, consume, optional, _>>=_}
 use Rattle.codes.specs.declared.TokenId.{TokenId}
 use Rattle.codes.specs.Answer.{Quiet, token, row}
 use Rattle.tokens.specs.declared.Consumed.{Consumed}
-use Rattle.tokens.specs.Answer.{Taking, Optionally, consumed, consuming}
+use Rattle.tokens.specs.declared.Taken.{Taken}
+use Rattle.tokens.specs.Answer.{kindIn, Taking, Optionally, consumed, consuming}
+use Rattle.reader.specs.declared.Expecting.{Expecting}
 use Rattle.reader.specs.declared.Tokens.{Tokens}
 
 -- the reader of the same row from another cursor on
@@ -24,6 +26,11 @@ kindsOf t = now (t .kinds)
 abbrev pub place : Tokens → ℕ
 place t = t .cursor .0
 
+-- a token is looked at: its kind, and the same cursor
+pub record Looks (ks : List ℕ) (c : TokenId) (r : Taken) : Type 0 where
+  pub kind : r .kind ≡ kindIn ks (c .0)
+  pub cursor : r .cursor ≡ c
+
 -- a token is taken: r is its kind, and t′ the reader after it
 pub record Takes (t : Tokens) (r : ℕ) (t′ : Tokens) : Type 0 where
   pub row : t′ ≡ moved t (t′ .cursor)
@@ -34,7 +41,12 @@ pub record Tries (t : Tokens) (expected : ℕ) (r : Bool) (t′ : Tokens) : Type
   pub row : t′ ≡ moved t (t′ .cursor)
   pub tried : Optionally (kindsOf t) expected (place t) (record { found = r; cursor = t′ .cursor })
 
--- a token of this kind is taken, or its refusal: r is the answer, and the reader goes on from the rule's cursor
+-- a token of this kind is taken, or its refusal: the answer, and the rule's cursor
+pub record Expects (ks : List ℕ) (expected count c : ℕ) (r : Expecting) : Type 0 where
+  pub answer : Quiet consumed (consuming expected) ks c count (r .answer)
+  pub cursor : r .cursor ≡ token (consume {S = Unit {0}} (row ks ks) expected c tt .cursor)
+
+-- the same by a reader: r is the answer, and the reader goes on from the rule's cursor
 pub record Consumes (t : Tokens) (expected count : ℕ) (r : Consumed) (t′ : Tokens) : Type 0 where
   pub reader :
       t′ ≡ moved t (token (consume {S = Unit {0}} (row (kindsOf t) (kindsOf t)) expected (place t) tt .cursor))

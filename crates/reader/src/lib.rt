@@ -1,12 +1,12 @@
 // A reader that holds the row and its cursor, after the Rust's Tokens of parser/tokens.rs. Each of its functions takes
-// it apart and calls the function of crate tokens on the row's kinds and the cursor. A caller that has no reader uses
-// the functions at the end, whose parameters are the row and the cursor.
+// it apart and calls a function on the row's kinds and the cursor, of crate tokens or above it. A caller that has no
+// reader uses the functions at the end, whose parameters are the row and the cursor.
 ghost use mathlib.Core.Path.{_≡_};
 ghost use Prim.Native.Nat.{_+_, _≤_};
 ghost use Rattle.rules.specs.Codes.Limit as Most;
 ghost use Rattle.codes.specs.Answer.{Quiet};
 ghost use Rattle.tokens.specs.Answer.{kindIn, consumed, Taking};
-ghost use Rattle.reader.specs.Answer.{kindsOf, place, ending, Takes, Tries, Consumes};
+ghost use Rattle.reader.specs.Answer.{kindsOf, place, ending, Looks, Takes, Tries, Expects, Consumes};
 use codes::BaseToken;
 use codes::TokenId;
 use tokens::Consumed;
@@ -17,6 +17,25 @@ pub struct Tokens<'a> {
     pub kinds: &'a [u8],
     pub types: &'a [u8],
     pub cursor: TokenId,
+}
+
+// What is answered for a token that is expected, and the cursor after it.
+pub struct Expecting {
+    pub answer: Consumed,
+    pub cursor: TokenId,
+}
+
+// The token at the cursor is taken, and refused where it is not of the kind expected, with the cursor by value. The
+// answer has the node count.
+fn expect(kinds: &[u8], cursor: TokenId, count: u32, expected: u8) -> Expecting
+    requires { ⌜ cursor .0 ≤ Most.Tokens + 1 ⌝ }
+    ensures { λ r. ⌜ Expects (now (kinds .entry)) expected count (cursor .0) r ⌝ }
+{
+    let answer = tokens::consume(kinds, cursor, count, expected);
+    Expecting {
+        answer,
+        cursor: TokenId(cursor.0 + 1),
+    }
 }
 
 // A reader of the row from the cursor on.
@@ -52,9 +71,9 @@ pub fn consume<'s, 'a>(tokens: &'s mut Tokens<'a>, count: u32, expected: u8) -> 
     requires { ⌜ place (now tokens) ≤ Most.Tokens + 1 ⌝ }
     ensures { λ r. ⌜ Consumes (now (tokens .entry)) expected count r (now (tokens .exit)) ⌝ }
 {
-    let consumed = tokens::consume(tokens.kinds, tokens.cursor, count, expected);
-    tokens.cursor = TokenId(tokens.cursor.0 + 1);
-    consumed
+    let expecting = expect(tokens.kinds, tokens.cursor, count, expected);
+    tokens.cursor = expecting.cursor;
+    expecting.answer
 }
 
 // The token at the cursor is taken where it is of the kind expected.
@@ -67,14 +86,25 @@ pub fn consume_optional<'s, 'a>(tokens: &'s mut Tokens<'a>, expected: u8) -> boo
     optional.found
 }
 
-// The token at the cursor is looked at and taken, by a reader.
+// The kind of the token at the cursor, by a reader that is made of the row and the cursor; and that reader's cursor.
+pub fn peek_at<'a>(kinds: &'a [u8], types: &'a [u8], cursor: TokenId) -> Taken
+    ensures { λ r. ⌜ Looks (now (kinds .entry)) cursor r ⌝ }
+{
+    let reader = new(kinds, types, cursor);
+    let kind = peek(&reader);
+    Taken {
+        kind,
+        cursor: reader.cursor,
+    }
+}
+
+// The token at the cursor is taken, likewise.
 pub fn take_at<'a>(kinds: &'a [u8], types: &'a [u8], cursor: TokenId) -> Taken
     requires { ⌜ cursor .0 ≤ Most.Tokens + 1 ⌝ }
     ensures { λ r. ⌜ Taking (now (kinds .entry)) (cursor .0) r ⌝ }
 {
     let mut reader = new(kinds, types, cursor);
-    let kind = peek(&reader);
-    take(&mut reader);
+    let kind = take(&mut reader);
     Taken {
         kind,
         cursor: reader.cursor,

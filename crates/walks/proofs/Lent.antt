@@ -11,7 +11,7 @@ use prog.Wp.{Heap}
 use ghost.Atoms.{Atoms}
 use contract.BorrowLft.{meet-⊑-left}
 use types.Kit.{Given, Item, ‵, raw, mean, _⊛_, ⋆, some, later, _$_, _∵_, !, qed, move, use1, use2, use3, split}
-use types.Kit.{join, pick, await, updating, now as at-once, show, done}
+use types.Kit.{pick, await, updating, now as at-once, show, done}
 use types.SemTy.{Body}
 use types.Tokens.{lft-new, lft-end, lent-back}
 use denote.Lend.{lends-ref, ref-back, lends-shr}

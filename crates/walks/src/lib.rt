@@ -1,1 +1,1 @@
-// Steps that the proofs by hand of crates reader and buffer share: see proofs/. No code.
+// What the proofs by hand of crates reader and buffer share: see proofs/. No code.

@@ -15,11 +15,10 @@ use prog.Routine.{Routine}
 use prog.Wp.{Heap, Calls, Loops, WpFn, Tables}
 use ghost.Atoms.{Atoms}
 use contract.Monad.{Fun}
-use contract.Running.{givenOf, tables, tablesOf}
+use contract.Running.{givenOf}
 use types.Kit.{Given, ‵, raw, _⊛_, _$_, _∵_, !, qed, by, use1, split, suffices, frame}
 use types.Part.{agg}
 use types.Run.{look, init, and-then, no-more, assigns, returns, enter, alloc1, alloc0, params1, pass1, pass0, free0}
-use sound.WpLaws.{WpFn-mono}
 use denote.Laws.{Is}
 use denote.Builtin.{u8}
 use denote.Ref.{RefT}
@@ -27,12 +26,12 @@ use denote.Signature.{plain}
 use denote.Slice.{sliceVal, ShrSlice, slice-vals, shr-slice-tells, shr-slice-lawful}
 use denote.Struct.Laws as LL
 use denote.Triple.Entry.{onEntry}
-use denote.Triple.Spec.{Meets, tripleOf}
-use denote.Triple.Table.{entered}
-use denote.Triple.Walked.{says, Stays, stay-none, stay-none-slice, walkOf, goes-none, goes-none-slice, Walks}
-use denote.Triple.Walked.{ends-at, walked, walk-meets}
+use denote.Triple.Spec.{Meets}
+use denote.Triple.Walked.{says, Stays, stay-none, stay-none-slice, walkOf, goes-none, goes-none-slice}
+use denote.Triple.Walked.{ends-at}
 use denote.Exit.{yes}
 use Rattle.walks.proofs.Operands.{itself, local, gone}
+use Rattle.walks.proofs.Told.{told, by-walk}
 use Rattle.codes.specs.declared.TokenId.{TokenId}
 use Rattle.codes.proofs.TokenId as I
 use Rattle.codes.proofs.TokenId.Laws as I′
@@ -91,35 +90,27 @@ module _ {M : Type 1} (𝓤 : URA M) (H : Heap 𝓤) (A : Atoms 𝓤) (W : Given
         returns ! (look ! 6 refl) $
         gone ! 6 refl refl $ gone ! 4 refl refl $ gone ! 2 refl refl $ gone ! 0 refl refl $ free0 ! $ by ! exits))))
 
-module _ {M : Type 1} (𝓤 : URA M) (H : Heap 𝓤) (A : Atoms 𝓤) (W : Given 𝓤 H A) (mem : Memory → SProp 𝓤)
-    (run : Routine → Fun 𝓤) where
-  new-walks : (C : Calls 𝓤 H) (Λ : Loops 𝓤 H) → Walks 𝓤 H A new.ended stayed (WpFn 𝓤 H C Λ code.function)
-      (new.clauses 𝓤 H A mem run)
-  new-walks C Λ = walked 𝓤 H A new.ended stayed (new.clauses 𝓤 H A mem run) (WpFn 𝓤 H C Λ code.function)
-      (λ κs. (slice-vals, (slice-vals, (LL.vals I.the-type I′.the-laws, tt))))
-      (λ κs. (
-        shr-slice-tells (named 0) (κs .0) u8,
-        (shr-slice-tells (named 0) (κs .0) u8, (LL.tells I.the-type I′.the-laws, tt)),
-      ))
-      (λ κs qs bounds a g are. via 𝓤 _ (fst∗ 𝓤 _ (emp 𝓤))
-      (walk 𝓤 H A W mem run (κs .0) (qs .0) (a .0) (a .1 .0) (a .1 .1 .0) C Λ (are .0) (are .1 .0) (are .1 .1 .0)))
-
 new-meets : {M : Type 1} (𝓤 : URA M) (H : Heap 𝓤) (A : Atoms 𝓤) → Given 𝓤 H A → (mem : Memory → SProp 𝓤)
     (run : Routine → Fun 𝓤) (𝓣 : Tables 𝓤 H)
     → Meets 𝓤 H A new.signature (WpFn 𝓤 H (𝓣 .C) (𝓣 .Λ) code.function) (new.spec 𝓤 H A mem run)
-new-meets 𝓤 H A W mem run 𝓣 = walk-meets 𝓤 H A new.ended stayed W (
+new-meets 𝓤 H A W mem run 𝓣 = by-walk 𝓤 H A W new.ended stayed (new.clauses 𝓤 H A mem run) code.function 𝓣 (
   goes-none-slice 𝓤 H A W 1 (0 ∷ []) tt (plain (λ _. u8)) yes,
   (
     goes-none-slice 𝓤 H A W 1 (0 ∷ []) tt (plain (λ _. u8)) yes,
     (goes-none 𝓤 H A W 1 (λ _. I.the-row) yes (λ κs x f. refl), tt),
   ),
 )
-    (new.clauses 𝓤 H A mem run) (WpFn 𝓤 H (𝓣 .C) (𝓣 .Λ) code.function) (WpFn-mono 𝓤 H (W .laws) 𝓣 code.function)
-    (new-walks 𝓤 H A W mem run (𝓣 .C) (𝓣 .Λ))
+    (λ κs. (slice-vals, (slice-vals, (LL.vals I.the-type I′.the-laws, tt))))
+    (λ κs. (
+      shr-slice-tells (named 0) (κs .0) u8,
+      (shr-slice-tells (named 0) (κs .0) u8, (LL.tells I.the-type I′.the-laws, tt)),
+    ))
+    (λ κs qs bounds a g are. via 𝓤 _ (fst∗ 𝓤 _ (emp 𝓤))
+    (walk 𝓤 H A W mem run (κs .0) (qs .0) (a .0) (a .1 .0) (a .1 .1 .0) (𝓣 .C) (𝓣 .Λ) (are .0) (are .1 .0) (are .1 .1
+    .0)))
 
 pub new-spec : {M : Type 1} → stated.statement M
-unfolding code.routine tablesOf
+unfolding code.routine
 new-spec 𝓤 H 𝓜 𝓖 𝓡 =
-    entered 𝓤 H (tripleOf 𝓤 H (𝓖 .A) new.signature (new.spec 𝓤 H (𝓖 .A) (𝓜 .mem) (𝓡 .run)))
-    (tables 𝓤 H 𝓜 𝓡 code.env .C) (tables 𝓤 H 𝓜 𝓡 code.env .Λ) #reader·new code.function (code.unfolded 𝓤 H 𝓜 𝓡)
-    (new-meets 𝓤 H (𝓖 .A) (givenOf 𝓤 H 𝓜 𝓖) (𝓜 .mem) (𝓡 .run) (tablesOf 𝓤 H 𝓜 (tables 𝓤 H 𝓜 𝓡 code.env)))
+    told 𝓤 H 𝓜 𝓡 code.env _ #reader·new code.function (code.unfolded 𝓤 H 𝓜 𝓡) (λ 𝓣 cite.
+    new-meets 𝓤 H (𝓖 .A) (givenOf 𝓤 H 𝓜 𝓖) (𝓜 .mem) (𝓡 .run) 𝓣)

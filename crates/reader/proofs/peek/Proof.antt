@@ -15,20 +15,19 @@ use prog.Wp.{Heap, Calls, Loops, WpFn, Tables}
 use ghost.Atoms.{Atoms, sem}
 use contract.Lifetimes.{AllOutlive}
 use contract.Monad.{Fun, fact}
-use contract.Running.{givenOf, tables, tablesOf}
+use contract.Running.{givenOf}
 use types.Kit.{Given, Item, ‵, raw, some, later, _⊛_, ⋆, _$_, _∵_, !, qed, by, move, keep, drop, use1, use2, split}
 use types.Kit.{join, pick, fsplit, fsplit3, fjoin, fjoin3, feqI, suffices, frame, await, done}
 use types.Part.{whole, sub, look-in}
 use types.Run.{look, init, stop, hop, fld, from, load, of-opd, and-then, no-more, assigns, land, returns, enter}
 use types.Run.{alloc1, alloc0, params1, pass1, pass0, free0}
-use sound.WpLaws.{FmC, fmOf, WpFn-mono}
+use sound.WpLaws.{FmC, fmOf}
 use denote.RattleType.{owns}
 use denote.Laws.{Is, shows}
 use denote.Memory.{partAt, cellAt}
 use denote.Plain.{uint-lawful}
 use denote.Builtin.{u8}
 use denote.Ref.{RefT, ShrRef, ptr-vals, shr-tells, now}
-use denote.Signature.{Slot, plain, namedLft}
 use denote.Steps.{looks, shuts, peeks, heard, nothing}
 use denote.Struct.Laws as LL
 use denote.Struct.Steps.{spelt}
@@ -37,11 +36,11 @@ use denote.Triple.Call.{calls-at}
 use denote.Triple.Clauses.{ensured, lasts}
 use denote.Triple.Entry.{Vals, onEntry}
 use denote.Triple.Spec.{Meets, tripleOf}
-use denote.Triple.Table.{entered, cited}
-use denote.Triple.Walked.{says, Stays, stay-none-ref, walkOf, goes-none-ref, Walks, ends-at, walked, walk-meets}
+use denote.Triple.Walked.{says, Stays, stay-none-ref, walkOf, goes-none-ref, ends-at}
 use denote.Exit.{yes}
 use Rattle.walks.proofs.Operands.{itself, local, gone}
 use Rattle.walks.proofs.Whole.{Cell, cell-in, cell-out}
+use Rattle.walks.proofs.Told.{told, by-walk}
 use Rattle.codes.proofs.TokenId.Laws as I′
 use Rattle.tokens.specs.Answer.{kindIn}
 use Rattle.tokens.proofs.peek as core
@@ -49,17 +48,13 @@ use Rattle.tokens.proofs.peek.Symbol as core-def
 use Rattle.tokens.proofs.peek.Symbol.{name as #core}
 use Rattle.tokens.proofs.peek.Met as core-thm
 use Rattle.reader.specs.declared.Tokens.{Tokens}
-use Rattle.reader.proofs.Tokens as T
 use Rattle.reader.proofs.Tokens.Laws as T′
 use Rattle.reader.proofs.Held.{α, B, D, L, mach, row, reader, Own, Passed, apart, kinds-typed, cursor-typed}
+use Rattle.reader.proofs.Forms.{behind}
 use Rattle.reader.proofs.peek.Key.{name as #reader·peek}
 use Rattle.reader.proofs.peek as peek
 use Rattle.reader.proofs.peek.Statement as stated
 use Rattle.reader.proofs.peek.Code as code
-
--- the reader as the referent's place in the signature
-abbrev behind : Slot 2
-behind = plain (λ κs. T.the-row (namedLft 2 1 tt κs))
 
 abbrev stayed : Stays (peek.ended .signature .params) (peek.ended .kept)
 stayed = (stay-none-ref (0 ∷ []) tt behind yes, tt)
@@ -164,29 +159,20 @@ module _ {M : Type 1} (𝓤 : URA M) (H : Heap 𝓤) (A : Atoms 𝓤) (W : Given
         gone ! 12 refl refl $ gone ! 10 refl refl $ gone ! 8 refl refl $ gone ! 6 refl refl $ free0 ! $
         keep ! (0 ∷ 1 ∷ 2 ∷ 3 ∷ 4 ∷ []) $ by ! (exits r u e)))))))))))
 
-module _ {M : Type 1} (𝓤 : URA M) (H : Heap 𝓤) (A : Atoms 𝓤) (W : Given 𝓤 H A) (mem : Memory → SProp 𝓤)
-    (run : Routine → Fun 𝓤) where
-  peek-walks : (C : Calls 𝓤 H) (Λ : Loops 𝓤 H) → FmC 𝓤 H (W .laws) C → Triple 𝓤 (C #core) (Core 𝓤 H A mem run) →
-      Walks 𝓤 H A peek.ended stayed (WpFn 𝓤 H C Λ code.function) (peek.clauses 𝓤 H A mem run)
-  peek-walks C Λ fm known = walked 𝓤 H A peek.ended stayed (peek.clauses 𝓤 H A mem run)
-      (WpFn 𝓤 H C Λ code.function) (λ κs. (ptr-vals, tt)) (λ κs. (shr-tells (named 0) (κs .0) (B (κs .1 .0)), tt))
-      (λ κs qs bounds a _ are. via 𝓤 _ (fst∗ 𝓤 _ (emp 𝓤)) (walk 𝓤 H A W mem run (κs .0) (κs .1 .0) (qs .0)
-      (qs .1 .0) bounds (a .0 .ptr .0) (a .0 .ptr .1) (a .0 .name) (a .0 .now) C Λ fm known))
-
 peek-meets : {M : Type 1} (𝓤 : URA M) (H : Heap 𝓤) (A : Atoms 𝓤) (W : Given 𝓤 H A) (mem : Memory → SProp 𝓤)
     (run : Routine → Fun 𝓤) (𝓣 : Tables 𝓤 H)
     → Triple 𝓤 (𝓣 .C #core) (Core 𝓤 H A mem run) → Meets 𝓤 H A peek.signature (WpFn 𝓤 H (𝓣 .C) (𝓣 .Λ)
     code.function) (peek.spec 𝓤 H A mem run)
-peek-meets 𝓤 H A W mem run 𝓣 known = walk-meets 𝓤 H A peek.ended stayed W
-    (goes-none-ref 𝓤 H A W 2 (0 ∷ []) tt behind yes, tt) (peek.clauses 𝓤 H A mem run) (WpFn 𝓤 H (𝓣 .C) (𝓣 .Λ)
-    code.function) (WpFn-mono 𝓤 H (W .laws) 𝓣 code.function)
-    (peek-walks 𝓤 H A W mem run (𝓣 .C) (𝓣 .Λ) (fmOf 𝓤 H (W .laws) 𝓣) known)
+peek-meets 𝓤 H A W mem run 𝓣 known = by-walk 𝓤 H A W peek.ended stayed (peek.clauses 𝓤 H A mem run) code.function 𝓣
+    (goes-none-ref 𝓤 H A W 2 (0 ∷ []) tt behind yes, tt) (λ κs. (ptr-vals, tt))
+    (λ κs. (shr-tells (named 0) (κs .0) (B (κs .1 .0)), tt))
+    (λ κs qs bounds a _ are. via 𝓤 _ (fst∗ 𝓤 _ (emp 𝓤)) (walk 𝓤 H A W mem run (κs .0) (κs .1 .0) (qs .0)
+    (qs .1 .0) bounds (a .0 .ptr .0) (a .0 .ptr .1) (a .0 .name) (a .0 .now) (𝓣 .C) (𝓣 .Λ) (fmOf 𝓤 H (W .laws) 𝓣)
+    known))
 
 pub peek-spec : {M : Type 1} → stated.statement M
-unfolding code.routine tablesOf
+unfolding code.routine
 peek-spec 𝓤 H 𝓜 𝓖 𝓡 =
-    entered 𝓤 H (tripleOf 𝓤 H (𝓖 .A) peek.signature (peek.spec 𝓤 H (𝓖 .A) (𝓜 .mem) (𝓡 .run)))
-    (tables 𝓤 H 𝓜 𝓡 code.env .C) (tables 𝓤 H 𝓜 𝓡 code.env .Λ) #reader·peek code.function (code.unfolded 𝓤 H 𝓜 𝓡)
-    (peek-meets 𝓤 H (𝓖 .A) (givenOf 𝓤 H 𝓜 𝓖) (𝓜 .mem) (𝓡 .run) (tablesOf 𝓤 H 𝓜 (tables 𝓤 H 𝓜 𝓡 code.env))
-    (cited 𝓤 H (Core 𝓤 H (𝓖 .A) (𝓜 .mem) (𝓡 .run)) 𝓜 𝓡 code.env #core core-def.routine code.calls-tokens·peek
+    told 𝓤 H 𝓜 𝓡 code.env _ #reader·peek code.function (code.unfolded 𝓤 H 𝓜 𝓡) (λ 𝓣 cite.
+    peek-meets 𝓤 H (𝓖 .A) (givenOf 𝓤 H 𝓜 𝓖) (𝓜 .mem) (𝓡 .run) 𝓣 (cite _ #core core-def.routine code.calls-tokens·peek
     (core-thm.met 𝓤 H 𝓜 𝓖 𝓡)))
