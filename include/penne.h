@@ -12,7 +12,7 @@
  * its place in the node columns.
  *
  * The library allocates nothing, keeps nothing between calls and needs no other library, not even that of C. It reads
- * and writes only what it is lent, and uses at most some 110 KB of stack. Calls in several threads are fine as long as
+ * and writes only what it is lent, and uses at most some 90 KB of stack. Calls in several threads are fine as long as
  * they do not write to the same memory.
  */
 #ifndef PENNE_H
