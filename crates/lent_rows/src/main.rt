@@ -13,6 +13,7 @@ use codes::TokenId;
 use libc::STDIN_FILENO;
 use libc::STDOUT_FILENO;
 use row_text::TOKENS;
+use tokens::Taken;
 
 mod answers;
 mod lists;
@@ -64,17 +65,24 @@ fn print_token(first: bool, kind: u8, ended: Numbers) {
     print_answer(ended);
 }
 
-// The token at a place, by the reader and by the core. The result is the next place.
+// The token at a place, looked at, taken and as a list's end, by the reader and by the core. The result is the next
+// place.
 fn show_token<'a>(kinds: &'a [u8], types: &'a [u8], at: u32, closing: u8) -> u32
     requires { ⌜ at ≤ Most.Tokens ⌝ }
     ensures { λ r. ⌜ r ≡ at + 1 ⌝ }
 {
     let cursor = TokenId(at);
+    let looked = reader::peek_at(kinds, types, cursor);
     let taken = reader::take_at(kinds, types, cursor);
     let ended = answers::of_consumed(reader::consume_end(kinds, types, cursor, 0, closing));
     print_token(at == 0, taken.kind, ended);
+    let core_looked = Taken {
+        kind: tokens::peek(kinds, cursor),
+        cursor,
+    };
     let core = tokens::take(kinds, cursor);
     let core_ended = answers::of_consumed(answers::end_by_core(kinds, cursor, 0, closing));
+    compare(answers::of_taken(looked), answers::of_taken(core_looked));
     compare(answers::of_taken(taken), answers::of_taken(core));
     compare(ended, core_ended);
     taken.cursor.0
