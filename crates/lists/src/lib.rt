@@ -309,7 +309,7 @@ pub fn finish_list(
     push_owner(node_kinds, node_loads, after, used, owner, items, link)
 }
 
-// The end of the fields of the struct or word at `name`, and its node.
+// The end of the fields of the struct or word at `name`, and its node, which does not hold their number.
 pub fn finish_fields(
     node_kinds: &mut [u8],
     node_loads: &mut [u32],

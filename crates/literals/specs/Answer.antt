@@ -42,7 +42,7 @@ pub record Literal (kinds types : List ℕ) (t c : ℕ) (s : Nodes) (r : Parsed)
       (t ≡ BaseToken.Builtin → ⊥) → (t ≡ BaseToken.BracketLeft → ⊥) → (t ≡ BaseToken.ParenLeft → ⊥) →
       (expr : Rule Nodes ℕ) → Gives (primary columns (row kinds types) expr) c s r ks ls
 
--- the tokens with which no expression goes on
+-- closing tokens, commas and semicolons: no expression goes on with them
 abbrev pub enders : List (ℕ × Bool)
 enders =
     BaseToken.ParenRight ⇒ true
@@ -59,7 +59,7 @@ ends t = entry t enders false
 abbrev pub integers : Bool → List (ℕ × Bool)
 integers b = BaseToken.NakedDecimal ⇒ b ∷ BaseToken.BitInteger ⇒ b ∷ []
 
--- whether an integer without a type stands at the cursor, and a token with which no expression goes on after it
+-- whether an integer without a type stands at the cursor, and such a token after it
 abbrev pub lone : List ℕ → ℕ → Bool
 lone kinds c = entry (kindIn kinds c) (integers (ends (kindIn kinds (c + 1)))) false
 

@@ -142,7 +142,7 @@ pub fn parse_literal(
     }
 }
 
-// Whether no expression goes on with this token.
+// Whether this is a closing token, a comma or a semicolon: no expression goes on with such a token.
 fn ends_expression(token: u8) -> bool
     ensures { λ r. ⌜ r ≡ ends token ⌝ }
 {
@@ -156,7 +156,7 @@ fn ends_expression(token: u8) -> bool
     }
 }
 
-// Whether the expression that begins here is nothing but an integer without a type.
+// Whether an integer without a type stands here and such a token after it: then it is the whole expression.
 pub fn lone_integer(kinds: &[u8], cursor: TokenId) -> bool
     requires { ⌜ cursor .0 ≤ Most.Tokens ⌝ }
     ensures { λ r. ⌜ Lone (now (kinds .entry)) (cursor .0) r ⌝ }
