@@ -55,7 +55,7 @@ once at f g kind load e d h =
     round f _ (length (at .kinds)) (e then first g d) then regroup _ _ _ _ _ then
     append-only _ _ _ (λ n t. reads _ (h n t))
 
--- no prefix and no cast are literals
+-- no literal is a `cast`
 no-cast : {key kind : ℕ} → Plainly key kind → eqb key BaseToken.Cast ≡ false
 no-cast decimal = refl
 no-cast bits = refl
