@@ -1,11 +1,11 @@
--- Lists of any contents: begun, added to and closed.
+-- Columns beside trees: a list of any contents that is begun, added to and closed.
 use Prim.Native.Nat.{ℕ, _+_, _-_}
 use native.Mathlib.Omega.{arith}
 use mathlib.Core.Path.{_≡_, refl, sym}
 use mathlib.Core.List.{List, [], _∷_}
 use mathlib.Core.Option.{Option, some, none}
 use borrow.Author.Tests.{le-leb}
-use Rattle.rules.specs.Reading.{Rule, _>>=_, pure}
+use Rattle.rules.specs.Reading.{_>>=_, pure}
 use Rattle.rules.specs.Trees.{Tree, node, fnil, items}
 use Rattle.rules.specs.Codes.ParseNode as ParseNode
 use Rattle.rules.specs.Columns.{Nodes, Ends, patch, extended, ended, pushListItem, pushEndOfList}
@@ -13,7 +13,7 @@ use Rattle.rules.specs.Ways.{parts}
 use Rattle.rules.proofs.Ways.{Numbered, numbered, rnil, rcons, root, strip, Stands, times}
 use Rattle.rules.proofs.Laid.{Claim, nothing, cell, tree, _⋆_, holds, counts, On, turn, appended, patched, kept}
 use Rattle.rules.proofs.Sim.{Sim, Via, _then_}
-use Rattle.rules.proofs.Grow.{At, Yields, above, append-sim}
+use Rattle.rules.proofs.Grow.{Beside, At, append-sim}
 
 -- the item n, not yet patched
 abbrev pub unpatched : ℕ → Claim
@@ -40,10 +40,6 @@ ends (t ∷ ts) = some (record { first = first (root t + 1) ts; last = root t + 
 abbrev pub contents : List Numbered → List Tree
 contents [] = []
 contents (t ∷ ts) = strip t ∷ contents ts
-
--- an open list is read
-abbrev pub Lists : (List Numbered → Nodes → Type 0) → Option Ends → List Tree → Nodes → Type 0
-Lists = Via ends contents
 
 -- the tree of the items before the end
 chained : List Numbered → Numbered → Numbered
@@ -79,18 +75,19 @@ chained-times (t ∷ ts) end m =
     omega (arith, chained-times ts (numbered (root t + 1) ParseNode.ListItem 0 (rcons t (rcons end rnil))) m)
 
 module _ {o : Nodes} {F : Claim} where
-  extended-sim :
+  extended-beside :
       (ts : List Numbered) (t : Numbered) →
-      Sim o (On o (unpatched (root t + 1) ⋆ (tree t ⋆ (opened ts ⋆ F)))) (Lists (λ us. At o [] (opened us ⋆ F)))
+      Sim (Beside o) (λ _ s _. On o (unpatched (root t + 1) ⋆ (tree t ⋆ (opened ts ⋆ F))) s)
+      (Via ends contents (λ us. At o [] (opened us ⋆ F)))
       (extended (ends ts) (root t + 1)) (pure (strip t ∷ contents ts))
   unfolding extended patch _>>=_
-  extended-sim [] t = record {
-    run = λ c s k h.
+  extended-beside [] t = record {
+    run = λ c c' s s' e k h.
         let on = turn {G = opened (t ∷ []) ⋆ F} (λ x. ((x .0, (x .1 .0, tt)), x .1 .1 .1)) (λ m. omega arith) h in
-        (refl, k, (t ∷ [], refl, refl, record { on = on; placed = tt }));
+        (e, k, (t ∷ [], refl, refl, record { on = on; placed = tt }));
   }
-  extended-sim (u ∷ us) t = record {
-    run = λ c s k h.
+  extended-beside (u ∷ us) t = record {
+    run = λ c c' s s' e k h.
         let moved = turn
         {G = unpatched (root u + 1) ⋆ (unpatched (root t + 1) ⋆ (tree t ⋆ (tree u ⋆ (chain us (root u + 1) ⋆ F))))}
         (λ x. (x .1 .1 .0 .0, (x .0, (x .1 .0, (x .1 .1 .0 .1 .0, (x .1 .1 .0 .1 .1, x .1 .1 .1))))))
@@ -101,40 +98,41 @@ module _ {o : Nodes} {F : Claim} where
         (λ x. ((x .1 .0, (x .1 .1 .0, (x .0, (x .1 .1 .1 .0, x .1 .1 .1 .1 .0)))), x .1 .1 .1 .1 .1))
         (λ m. omega arith)
         (patched (root u + 1) ParseNode.UnpatchedListItem 0 ParseNode.ListItem (root t + 1) moved) in
-        (refl, kept on, (t ∷ u ∷ us, refl, refl, record { on = on; placed = tt }));
+        (e, kept on, (t ∷ u ∷ us, refl, refl, record { on = on; placed = tt }));
   }
 
   -- an item is added after its content
-  pub item-sim :
+  pub item-beside :
       (ts : List Numbered) (t : Numbered) →
-      Sim o (At o (t ∷ []) (opened ts ⋆ F)) (Lists (λ us. At o [] (opened us ⋆ F)))
+      Sim (Beside o) (At o (t ∷ []) (opened ts ⋆ F)) (Via ends contents (λ us. At o [] (opened us ⋆ F)))
       (pushListItem (ends ts)) (pure (strip t ∷ contents ts))
   unfolding _>>=_ pushListItem
-  item-sim ts t =
-      _then_ {f' = λ _. pure (strip t ∷ contents ts)}
-      (append-sim {Q = λ p _ s. (p ≡ root t + 1) × On o (unpatched (root t + 1) ⋆ (tree t ⋆ (opened ts ⋆ F))) s}
-      ParseNode.UnpatchedListItem 0 (tt {0}) λ s p r.
+  item-beside ts t =
+      let items = unpatched (root t + 1) ⋆ (tree t ⋆ (opened ts ⋆ F)) in
+      _then_ {Q = λ p _ _ s _. (p ≡ root t + 1) × On o items s} {f' = λ _. pure (strip t ∷ contents ts)}
+      (append-sim ParseNode.UnpatchedListItem 0 (tt {0}) λ c s p r.
       let on = appended ParseNode.UnpatchedListItem 0 r (p .on) in
       (_, on, (sym (p .placed .0), rw (p .placed .0) on)))
-      (λ a b. record { run = λ c s k q. rw (q .0) (extended-sim ts t .run c s k (q .1)) })
+      (λ a b. record { run = λ c c' s s' e k q. rw (q .0) (extended-beside ts t .run c c' s s' e k (q .1)) })
 
-  ended-sim :
+  ended-beside :
       (ts : List Numbered) (n : ℕ) →
-      Sim o (On o (cell n ParseNode.NoMoreItems 0 ⋆ (opened ts ⋆ F))) (Yields (λ u. At o [] (tree u ⋆ F)))
+      Sim (Beside o) (λ _ s _. On o (cell n ParseNode.NoMoreItems 0 ⋆ (opened ts ⋆ F)) s)
+      (Via root strip (λ u. At o [] (tree u ⋆ F)))
       (ended (ends ts) n) (pure (items (contents ts) (node ParseNode.NoMoreItems 0 fnil)))
   unfolding ended patch _>>=_ parts
-  ended-sim [] n = record {
-    run = λ c s k h.
+  ended-beside [] n = record {
+    run = λ c c' s s' e k h.
         let on = turn
         {G = tree (numbered n ParseNode.NoMoreItems 0 rnil) ⋆ F}
         (λ x. ((x .0 .0, x .0 .1, rw (x .0 .0), tt), x .1 .1))
         (λ m. omega arith)
         h in
-        (refl, k, (numbered n ParseNode.NoMoreItems 0 rnil, refl, refl, record { on = on; placed = tt }));
+        (e, k, (numbered n ParseNode.NoMoreItems 0 rnil, refl, refl, record { on = on; placed = tt }));
   }
-  ended-sim (u ∷ us) n =
+  ended-beside (u ∷ us) n =
       let end = numbered n ParseNode.NoMoreItems 0 rnil in record {
-        run = λ c s k h.
+        run = λ c c' s s' e k h.
             let moved = turn
             {G = unpatched (root u + 1) ⋆ (cell n ParseNode.NoMoreItems 0 ⋆ (tree u ⋆ (chain us (root u + 1) ⋆ F)))}
             (λ x. (x .1 .0 .0, (x .0, (x .1 .0 .1 .0, (x .1 .0 .1 .1, x .1 .1)))))
@@ -150,7 +148,7 @@ module _ {o : Nodes} {F : Claim} where
             ))
             (λ m. omega (arith, chained-times (u ∷ us) end m))
             (patched (root u + 1) ParseNode.UnpatchedListItem 0 ParseNode.ListItem n moved) in (
-              refl,
+              e,
               kept on,
               (
                 chained (u ∷ us) end,
@@ -162,23 +160,15 @@ module _ {o : Nodes} {F : Claim} where
       }
 
   -- the list is closed: what is read is its first item, or its end if it has none
-  pub close-sim :
+  pub close-beside :
       (ts : List Numbered) →
-      Sim o (At o [] (opened ts ⋆ F)) (Yields (λ u. At o [] (tree u ⋆ F)))
+      Sim (Beside o) (At o [] (opened ts ⋆ F)) (Via root strip (λ u. At o [] (tree u ⋆ F)))
       (pushEndOfList (ends ts)) (pure (items (contents ts) (node ParseNode.NoMoreItems 0 fnil)))
   unfolding _>>=_ pushEndOfList
-  close-sim ts =
-      _then_ {f' = λ _. pure (items (contents ts) (node ParseNode.NoMoreItems 0 fnil))}
-      (append-sim {Q = λ p _ s. On o (cell p ParseNode.NoMoreItems 0 ⋆ (opened ts ⋆ F)) s}
-      ParseNode.NoMoreItems 0 (tt {0}) λ s p r.
+  close-beside ts =
+      _then_ {Q = λ p _ _ s _. On o (cell p ParseNode.NoMoreItems 0 ⋆ (opened ts ⋆ F)) s}
+      {f' = λ _. pure (items (contents ts) (node ParseNode.NoMoreItems 0 fnil))}
+      (append-sim ParseNode.NoMoreItems 0 (tt {0}) λ c s p r.
       let on = appended ParseNode.NoMoreItems 0 r (p .on) in
       (_, on, on))
-      (λ n b. ended-sim ts n)
-
-  -- a list begins
-  pub begin-sim :
-      {A B : Type 0} {Q : A → B → Nodes → Type 0} {m : Rule Nodes A} {m' : Rule (Unit {0}) B} {ts : List Numbered} →
-      Sim o (At o [] (opened [] ⋆ above ts F)) Q m m' → Sim o (At o ts F) Q m m'
-  begin-sim h = record {
-    run = λ c s k p. h .run c s k (record { on = turn (λ x. (tt, x)) (λ m. omega arith) (p .on); placed = tt });
-  }
+      (λ n b. ended-beside ts n)

@@ -1,119 +1,131 @@
--- The rules for declarations, with columns and with trees.
+-- The rules for declarations agree, over any two rows and builders of a model.
 use Prim.Native.Nat.{ℕ}
-use mathlib.Core.Path.{refl}
-use mathlib.Core.List.{List, [], _∷_}
+use mathlib.Core.Bool.{false}
+use mathlib.Core.Path.{_≡_, refl}
+use mathlib.Core.List.{List, []}
+use lib.Dec.{eqb}
+use Rattle.rules.specs.Codes.Refusal as Refusal
 use Rattle.rules.specs.Reading.{Row}
-use Rattle.rules.specs.Trees.{trees}
-use Rattle.rules.specs.Columns.{Nodes, columns}
-use Rattle.rules.specs.Expressions.{stepEnd}
+use Rattle.rules.specs.Builder.{Builder}
 use Rattle.rules.specs.Declarations.{colon, typed, value, constantEnd, constant, member, memberEnd, memberItem}
 use Rattle.rules.specs.Declarations.{memberList, members, structure, struct, word}
-use Rattle.rules.proofs.Ways.{Numbered, root, strip}
-use Rattle.rules.proofs.Laid.{Claim, tree, _⋆_}
-use Rattle.rules.proofs.Sim.{Sim, Alike, Any, Stepped, _same_, grow, opens, gives, eased}
-use Rattle.rules.proofs.Sim.{here-sim, consume-sim, optional-sim, refuse-sim, pick-sim, loop-sim}
-use Rattle.rules.proofs.Grow.{At, Yields, Follows, under, node-sim, leaf-sim, link-sim}
-use Rattle.rules.proofs.Chain.{ends, contents, opened, begin-sim, item-sim, close-sim}
+use Rattle.rules.proofs.Sim.{Relation, Token, Sim, Alike, Any, _same_, _for_, each, opens, gives, eased}
+use Rattle.rules.proofs.Sim.{refuse-sim}
+use Rattle.rules.proofs.Rounds.{Stepped}
+use Rattle.rules.proofs.Model.{Rows, Model, plus}
+use Rattle.rules.proofs.Steps.{One, First, Open, Gains, Follows, spare, stays, under, closed-at-once}
+use Rattle.rules.proofs.Steps.{node-sim, leaf-sim, link-sim, close-sim, here-sim, consume-sim}
+use Rattle.rules.proofs.Steps.{optionally, _otherwise_, loop-sim}
 use Rattle.rules.proofs.Types.{type-rule}
-use Rattle.rules.proofs.Expressions.{First, Open, expression-rule}
+use Rattle.rules.proofs.References.{step-end}
+use Rattle.rules.proofs.Expressions.{expression-rule}
 
-module _ (o : Nodes) (row : Row) where
-  colon-sim :
-      {P : Nodes → Type 0} (number : ℕ) →
-      Sim o P (Alike Any P) (colon columns row number) (colon trees row number)
-  unfolding colon
-  colon-sim number =
-      here-sim same λ at _.
-      optional-sim row _ same λ found _.
-      pick-sim found (gives λ s p. (refl, tt, p)) refuse-sim
-
-  typed-sim : (number unused : ℕ) → Follows o (typed columns row number unused) (typed trees row number unused)
-  unfolding typed
-  typed-sim number unused F =
-      consume-sim row _ same λ _ _.
-      colon-sim number same λ _ _.
-      type-rule o row unused F
-
-  value-sim : (unused : ℕ) → Follows o (value columns row unused) (value trees row unused)
-  unfolding value
-  value-sim unused F =
-      consume-sim row _ same λ _ _.
-      grow _ _ (expression-rule o row unused F) λ x.
-      consume-sim row _ same λ _ _.
-      gives λ s p. (x, refl, refl, p)
-
-  pub constant-rule :
-      (unused start flags : ℕ) →
-      Follows o (constant columns row unused start flags) (constant trees row unused start flags)
-  unfolding constant constantEnd
-  constant-rule unused start flags F =
-      here-sim same λ name _.
-      grow _ _ (typed-sim _ unused F) λ t.
-      grow _ _ (under (value-sim unused)) λ x.
-      grow _ _ (link-sim _ t refl) λ i.
-      grow _ _ (leaf-sim _ name refl) λ m.
-      grow _ _ (leaf-sim _ flags refl) λ f.
-      node-sim _ start refl
-
-  member-sim : (unused : ℕ) → Follows o (member columns row unused) (member trees row unused)
-  unfolding member
-  member-sim unused F =
-      here-sim same λ name _.
-      grow _ _ (typed-sim _ unused F) λ t.
-      node-sim _ name refl
-
-  member-item :
-      {F : Claim} (unused : ℕ) (us : List Numbered) →
-      Sim o (At o [] (opened us ⋆ F)) (Stepped (Open o F) (Open o F))
-      (memberItem columns row unused (ends us)) (memberItem trees row unused (contents us))
-  unfolding memberItem memberEnd stepEnd
-  member-item {F} unused us =
-      optional-sim row _ same λ closing _.
-      pick-sim closing (gives λ s p. (us, refl, refl, p)) (
-      grow _ _ (member-sim unused (opened us ⋆ F)) λ t.
-      consume-sim row _ same λ _ _.
-      grow _ _ (item-sim us t) λ vs.
-      gives λ s p. (vs, refl, refl, p))
-
-  members-sim :
-      {F : Claim} (unused : ℕ) →
-      Sim o (At o [] F) (First o F) (members columns row unused) (members trees row unused)
-  unfolding members memberList
-  members-sim unused =
-      consume-sim row _ same λ _ _.
-      begin-sim (
-      grow _ _ (eased (λ s p. ([], refl, refl, p)) (loop-sim row (opens _ _ (member-item unused)) _ _)) λ us.
-      close-sim us)
+module _ {B B' : Builder} {rel : Relation (B .S) (B' .S)} (M : Model B B' rel) where
+  open Model M using (N, nodeˡ, nodeʳ, L, listˡ, listʳ, Besides, held, opened, At, begin, shared)
 
   structure-sim :
-      {F : Claim} (start flags size name : ℕ) (l : Numbered) →
-      Sim o (At o [] (tree l ⋆ F)) (Yields (λ t. At o (t ∷ []) F))
-      (structure columns start flags size name (root l)) (structure trees start flags size name (strip l))
+      {x : ℕ} {F : Besides} (start : Token rel) (flags size : ℕ) (name : Token rel) (l : N) →
+      Sim rel (At (plus 5 x) [] (held l F)) (One M x F)
+      (structure B (start .left) flags size (name .left) (nodeˡ l))
+      (structure B' (start .right) flags size (name .right) (nodeʳ l))
   unfolding structure
   structure-sim start flags size name l =
-      grow _ _ (link-sim _ l refl) λ s.
-      grow _ _ (leaf-sim _ size refl) λ z.
-      grow _ _ (leaf-sim _ name refl) λ m.
-      grow _ _ (leaf-sim _ flags refl) λ f.
-      node-sim _ start refl
+      link-sim M refl for each λ s.
+      leaf-sim M refl refl for each λ z.
+      leaf-sim M refl (name .both) for each λ m.
+      leaf-sim M refl refl for each λ f.
+      node-sim M refl (start .both)
 
-  pub struct-rule :
-      (unused start flags : ℕ) →
-      Follows o (struct columns row unused start flags) (struct trees row unused start flags)
-  unfolding struct
-  struct-rule unused start flags F =
-      here-sim same λ name _.
-      consume-sim row _ same λ _ _.
-      optional-sim row _ same λ semicolon _.
-      grow _ _ (pick-sim semicolon (begin-sim (close-sim [])) (members-sim unused)) λ l.
-      structure-sim start _ 0 name l
+  module _ {row row' : Row} (R : Rows rel row row') where
+    colon-sim :
+        {x : ℕ} {ts : List N} {F : Besides} (number : ℕ) → eqb number Refusal.NoSlot ≡ false →
+        Sim rel (At x ts F) (Alike Any (At (plus 5 x) ts F)) (colon B row number) (colon B' row' number)
+    unfolding colon
+    colon-sim number e =
+        here-sim for each λ at.
+        optionally M R _ (
+        (gives λ c s s' p. (refl, tt, p)) otherwise
+        refuse-sim (shared number e) at at)
 
-  pub word-rule :
-      (unused start flags kind : ℕ) →
-      Follows o (word columns row unused start flags kind) (word trees row unused start flags kind)
-  unfolding word
-  word-rule unused start flags kind F =
-      here-sim same λ name _.
-      consume-sim row _ same λ _ _.
-      grow _ _ (members-sim unused) λ l.
-      structure-sim start flags _ name l
+    typed-sim :
+        (number unused : ℕ) → eqb number Refusal.NoSlot ≡ false →
+        Gains M 10 (typed B row number unused) (typed B' row' number unused)
+    unfolding typed
+    typed-sim number unused e x F =
+        consume-sim M R _ same λ _ _.
+        colon-sim number e same λ _ _.
+        type-rule M R unused _ F
+
+    value-sim : (unused : ℕ) → Follows M (value B row unused) (value B' row' unused)
+    unfolding value
+    value-sim unused x F =
+        consume-sim M R _ same λ _ _.
+        expression-rule M R unused _ F for each λ t.
+        consume-sim M R _ same λ _ _.
+        spare M 10 (stays M t)
+
+    pub constant-rule :
+        (unused : ℕ) (start : Token rel) (flags : ℕ) →
+        Follows M (constant B row unused (start .left) flags) (constant B' row' unused (start .right) flags)
+    unfolding constant constantEnd
+    constant-rule unused start flags x F =
+        here-sim for each λ name.
+        typed-sim _ unused refl x F for each λ t.
+        spare M 6 (
+        under M t (value-sim unused) for each λ u.
+        link-sim M refl for each λ i.
+        leaf-sim M refl (name .both) for each λ m.
+        leaf-sim M refl refl for each λ f.
+        node-sim M refl (start .both))
+
+    member-sim : (unused : ℕ) → Gains M 9 (member B row unused) (member B' row' unused)
+    unfolding member
+    member-sim unused x F =
+        here-sim for each λ name.
+        typed-sim _ unused refl x F for each λ t.
+        node-sim M refl (name .both)
+
+    member-item :
+        (unused : ℕ) {x : ℕ} {F : Besides} (us : L) →
+        Sim rel (At x [] (opened us F)) (Stepped (Open M x F) (Open M x F))
+        (memberItem B row unused (listˡ us)) (memberItem B' row' unused (listʳ us))
+    unfolding memberItem memberEnd
+    member-item unused {x} {F} us =
+        optionally M R _ (
+        spare M 5 (gives λ c s s' p. (us, refl, refl, p)) otherwise
+        member-sim unused x (opened us F) for each λ t.
+        consume-sim M R _ same λ _ _.
+        spare M 13 (step-end M R us t))
+
+    members-sim :
+        {x : ℕ} {F : Besides} (unused : ℕ) →
+        Sim rel (At x [] F) (First M (plus 4 x) F) (members B row unused) (members B' row' unused)
+    unfolding members memberList
+    members-sim unused =
+        consume-sim M R _ same λ _ _.
+        eased (begin _ _) (loop-sim R (opens (each (λ us. member-item unused us))) _ _) for each λ us.
+        close-sim M us
+
+    pub struct-rule :
+        (unused : ℕ) (start : Token rel) (flags : ℕ) →
+        Follows M (struct B row unused (start .left) flags) (struct B' row' unused (start .right) flags)
+    unfolding struct
+    struct-rule unused start flags x F =
+        here-sim for each λ name.
+        consume-sim M R _ same λ _ _.
+        optionally M R _ (
+        spare M 4 (
+        closed-at-once M for each λ l.
+        structure-sim start _ 0 name l) otherwise
+        members-sim unused for each λ l.
+        spare M 4 (structure-sim start _ 0 name l))
+
+    pub word-rule :
+        (unused : ℕ) (start : Token rel) (flags kind : ℕ) →
+        Follows M (word B row unused (start .left) flags kind) (word B' row' unused (start .right) flags kind)
+    unfolding word
+    word-rule unused start flags kind x F =
+        here-sim for each λ name.
+        consume-sim M R _ same λ _ _.
+        members-sim unused for each λ l.
+        spare M 4 (structure-sim start flags _ name l)

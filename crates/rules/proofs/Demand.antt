@@ -16,10 +16,12 @@ use Rattle.rules.specs.Types.{type}
 use Rattle.rules.specs.Expressions.{expression}
 use Rattle.rules.specs.Declarations.{constant, struct, word}
 use Rattle.rules.proofs.Lists.{getD-past}
-use Rattle.rules.proofs.Ways.{whole, reads-one}
+use Rattle.rules.proofs.Ways.{root, strip, whole, reads-one}
 use Rattle.rules.proofs.Laid.{nothing, start}
-use Rattle.rules.proofs.Sim.{Both}
-use Rattle.rules.proofs.Grow.{Follows, At, Yields}
+use Rattle.rules.proofs.Sim.{Token, Both, Via}
+use Rattle.rules.proofs.Steps.{Follows}
+use Rattle.rules.proofs.Grow.{Beside, At}
+use Rattle.rules.proofs.Beside.{beside, row-once}
 use Rattle.rules.proofs.Types.{type-rule}
 use Rattle.rules.proofs.Expressions.{expression-rule}
 use Rattle.rules.proofs.Declarations.{constant-rule, struct-rule, word-rule}
@@ -39,18 +41,21 @@ kept-all o z = record {
   after = λ m g. (refl, refl);
 }
 
-module _ {o : Nodes} {m : Rule Nodes ℕ} {m' : Rule (Unit {0}) Tree} (h : Follows o m m') (z : Sized o) (c : ℕ) where
+module _ {o : Nodes} {m : Rule Nodes ℕ} {m' : Rule (Unit {0}) Tree}
+    (h : Follows (beside o) m m') (z : Sized o) (c : ℕ) where
   both :
-      Both o (Yields (λ t. At o (t ∷ []) nothing)) (m c o .result) (m c o .cursor) (m c o .state)
-      (m' c tt .result) (m' c tt .cursor)
-  both = h nothing .run c o (kept-all o z) (record { on = start o (z .even) (z .room); placed = tt })
+      Both (Beside o) (Via root strip (λ t. At o (t ∷ []) nothing)) (m c o .result) (m c o .cursor) (m c o .state)
+      (m' c tt .result) (m' c tt .cursor) tt
+  unfolding beside
+  both = h 0 nothing .run c c o tt refl (kept-all o z) (record { on = start o (z .even) (z .room); placed = tt })
 
   accepted : (r : ℕ) → m c o .result ≡ ok r → Accepted o r (m c o) (m' c tt)
   accepted r e = go (m' c tt .result) refl (rw e at both)
     where
       go :
           (q : Result Tree) → m' c tt .result ≡ q →
-          Both o (Yields (λ t. At o (t ∷ []) nothing)) (ok r) (m c o .cursor) (m c o .state) q (m' c tt .cursor) →
+          Both (Beside o) (Via root strip (λ t. At o (t ∷ []) nothing)) (ok r) (m c o .cursor) (m c o .state) q
+          (m' c tt .cursor) tt →
           Accepted o r (m c o) (m' c tt)
       go (ok t) d b = let (u, x, y, a) = b .2 in record {
         tree = t;
@@ -62,20 +67,24 @@ module _ {o : Nodes} {m : Rule Nodes ℕ} {m' : Rule (Unit {0}) Tree} (h : Follo
       go (no x y v) d b = absurd b
 
   refused :
-      (n x y : ℕ) → m c o .result ≡ no n x y → n ≢ Refusal.NoSlot →
+      (n x y : ℕ) → m c o .result ≡ no n x y → n ≢ Refusal.NoSlot → n ≢ Refusal.OutOfRounds →
       (m' c tt .result ≡ no n x y) × (m' c tt .cursor ≡ m c o .cursor)
-  refused n x y e d = elim ((rw e at both) .1) [ inl a ↦ absurd (d a) | inr a ↦ (a .0, sym (a .1)) ]
+  refused n x y e d d' = elim (rw e at both) [
+    | inl a ↦ absurd (elim (a .0) [ inl b ↦ d b | inr b ↦ d' b ])
+    | inr a ↦ (rw (a .starts, a .ends) (a .reply), sym (a .cursor))
+  ]
 
   kept : Kept o (m c o .state)
   kept = go (m c o .result) (m' c tt .result) both
     where
       go :
           (r : Result ℕ) (q : Result Tree) →
-          Both o (Yields (λ t. At o (t ∷ []) nothing)) r (m c o .cursor) (m c o .state) q (m' c tt .cursor) →
+          Both (Beside o) (Via root strip (λ t. At o (t ∷ []) nothing)) r (m c o .cursor) (m c o .state) q
+          (m' c tt .cursor) tt →
           Kept o (m c o .state)
       go (ok a) (ok b) d = d .1
       go (ok a) (no x y v) d = absurd d
-      go (no x y v) q d = d .0
+      go (no x y v) q d = elim d [ inl a ↦ a .1 | inr a ↦ a .states ]
 
 -- a row's tokens stand below its length, and below its last place where EndOfSource stands there
 pub below : (row : Row) → Stop row (length (row .kinds))
@@ -97,7 +106,7 @@ below-last {row} z = record {
 }
 
 module _ {row : Row} {m : Rule Nodes ℕ} {m' : Rule (Unit {0}) Tree}
-    (follows : (o : Nodes) → Follows o m m')
+    (follows : (o : Nodes) → Follows (beside o) m m')
     (moves : (n : ℕ) → Stop row n → n ≤ length (row .kinds) → (c : ℕ) → Goes n m c (λ _ c'. c < c'))
     (starts : (c : ℕ) → kindOf row c ≡ 0 → Refuses m c) where
   -- what is left of an outcome that is known
@@ -115,10 +124,16 @@ module _ {row : Row} {m : Rule Nodes ℕ} {m' : Rule (Unit {0}) Tree}
     | Dec.no d ↦ absurd (rw e at (starts c (getD-past (row .kinds) c 0 (omega arith)) .run o))
   ]
 
+  numbered : (o : Nodes) (c n x y : ℕ) → Sized o → m c o .result ≡ no n x y → n ≢ Refusal.OutOfRounds
+  numbered o c n x y z e = elim (decLe c (length (row .kinds))) [
+    | Dec.yes d ↦ eqb-false n 0 (left (length (row .kinds)) (below row) (omega arith) o c z d _ e .1)
+    | Dec.no d ↦ eqb-false n 0 (rw e at (starts c (getD-past (row .kinds) c 0 (omega arith)) .run o))
+  ]
+
   pub demand : Demand row m m'
   demand = record {
     accepted = λ o c r z e. accepted (follows o) z c r e;
-    refused = λ o c n x y z e d. refused (follows o) z c n x y e d;
+    refused = λ o c n x y z e d. refused (follows o) z c n x y e d (numbered o c n x y z e);
     kept = λ o c z. kept (follows o) z c;
     ahead = ahead;
     before-end = λ o c r z d b e.
@@ -127,22 +142,23 @@ module _ {row : Row} {m : Rule Nodes ℕ} {m' : Rule (Unit {0}) Tree}
     at-end = λ o c n x y z d b e.
         let l = left (d .last) (below-last d) (omega (arith, d .size)) o c z (omega (arith, d .size)) _ e in
         omega (arith, d .size, l .0);
-    numbered = λ o c n x y z e. elim (decLe c (length (row .kinds))) [
-      | Dec.yes d ↦ eqb-false n 0 (left (length (row .kinds)) (below row) (omega arith) o c z d _ e .1)
-      | Dec.no d ↦ eqb-false n 0 (rw e at (starts c (getD-past (row .kinds) c 0 (omega arith)) .run o))
-    ];
+    numbered = numbered;
   }
+
+-- a token's number, which is the same in both
+abbrev at : {o : Nodes} → ℕ → Token (Beside o)
+at n = record { left = n; right = n; both = refl }
 
 module _ (row : Row) (unused : ℕ) where
   pub types : Demand row (type columns row unused) (type trees row unused)
   types = demand
-      (λ o. type-rule o row unused)
+      (λ o. type-rule (beside o) (row-once o row) unused)
       (λ _ stop size. type-moves stop size unused)
       (λ _ e. Starts.types row e unused)
 
   pub expressions : Demand row (expression columns row unused) (expression trees row unused)
   expressions = demand
-      (λ o. expression-rule o row unused)
+      (λ o. expression-rule (beside o) (row-once o row) unused)
       (λ _ stop size. expression-moves stop size unused)
       (λ _ e. Starts.expressions row e unused)
 
@@ -150,7 +166,7 @@ module _ (row : Row) (unused : ℕ) where
       (start flags : ℕ) →
       Demand row (constant columns row unused start flags) (constant trees row unused start flags)
   constants start flags = demand
-      (λ o. constant-rule o row unused start flags)
+      (λ o. constant-rule (beside o) (row-once o row) unused (at start) flags)
       (λ _ stop size. constant-moves stop size unused start flags)
       (λ _ e. Starts.constants row e unused start flags)
 
@@ -158,7 +174,7 @@ module _ (row : Row) (unused : ℕ) where
       (start flags : ℕ) →
       Demand row (struct columns row unused start flags) (struct trees row unused start flags)
   structs start flags = demand
-      (λ o. struct-rule o row unused start flags)
+      (λ o. struct-rule (beside o) (row-once o row) unused (at start) flags)
       (λ _ stop size. struct-moves stop size unused start flags)
       (λ _ e. Starts.structs row e unused start flags)
 
@@ -166,7 +182,7 @@ module _ (row : Row) (unused : ℕ) where
       (start flags kind : ℕ) →
       Demand row (word columns row unused start flags kind) (word trees row unused start flags kind)
   words start flags kind = demand
-      (λ o. word-rule o row unused start flags kind)
+      (λ o. word-rule (beside o) (row-once o row) unused (at start) flags kind)
       (λ _ stop size. word-moves stop size unused start flags kind)
       (λ _ e. Starts.words row e unused start flags kind)
 

@@ -1,65 +1,53 @@
--- The builder's steps: what the columns hold after each is the tree that the trees' builder gives.
+-- Columns beside trees: a node that is appended is the one that the builder of trees makes.
 use Prim.Native.Nat.{ℕ, suc, _+_, _-_, _<_}
 use native.Mathlib.Omega.{arith}
 use mathlib.Core.Bool.{Bool, true, false}
-use mathlib.Core.Logic.{inl}
+use mathlib.Core.Logic.{_⊎_, inl}
 use mathlib.Core.Path.{_≡_, refl}
 use mathlib.Core.List.{List, [], _∷_, map}
 use lib.ListN.{length}
 use lib.Dec.{ltb}
 use borrow.Author.Tests.{ltb-true, le-leb}
-use Rattle.rules.specs.Reading.{Rule, ok, pure}
-use Rattle.rules.specs.Codes.{Part, back, linked, partsOf}
+use Rattle.rules.specs.Reading.{ok, pure}
+use Rattle.rules.specs.Codes.Refusal as Refusal
+use Rattle.rules.specs.Codes.{linked, partsOf}
 use Rattle.rules.specs.Demand.{Kept}
-use Rattle.rules.specs.Trees.{Tree, node, fnil, fcons}
+use Rattle.rules.specs.Trees.{node, fnil, fcons, forest}
 use Rattle.rules.specs.Columns.{Nodes, written, append}
 use Rattle.rules.specs.Ways.{links, place, parts}
 use Rattle.rules.proofs.Ways.{Numbered, Row, numbered, rnil, rcons, root, roots, strip, strips}
 use Rattle.rules.proofs.Ways.{All, timesAll}
 use Rattle.rules.proofs.Laid.{Claim, tree, _⋆_, holds, counts, On, turn, appended, kept}
-use Rattle.rules.proofs.Sim.{Sim, Both, Via}
+use Rattle.rules.proofs.Sim.{Relation, Known, Sim, Both, Via}
+use Rattle.rules.proofs.Model.{Kind, backs}
 
-abbrev pub row : List Numbered → Row
+-- The same row and cursor in both, and the frame throughout. That the slots are used up is excused: trees have none.
+abbrev pub Beside : Nodes → Relation Nodes (Unit {0})
+Beside o = record {
+  Cursors = λ c c'. c ≡ c';
+  States = λ s _. Kept o s;
+  Excused = λ x _ s. ((x ≡ Refusal.NoSlot) ⊎ (x ≡ Refusal.OutOfRounds)) × Kept o s;
+  Shared = λ _. Unit {0};
+}
+
+abbrev row : List Numbered → Row
 row [] = rnil
 row (t ∷ ts) = rcons t (row ts)
 
 -- the trees, and the claim besides
-abbrev pub above : List Numbered → Claim → Claim
+abbrev above : List Numbered → Claim → Claim
 above [] F = F
 above (t ∷ ts) F = tree t ⋆ above ts F
 
 -- their roots stand i, i + 1 .. before n
-abbrev pub Placed : ℕ → ℕ → List Numbered → Type 0
+abbrev Placed : ℕ → ℕ → List Numbered → Type 0
 Placed n i [] = Unit {0}
 Placed n i (t ∷ ts) = (root t + i ≡ n) × Placed n (suc i) ts
 
--- parts i, i + 1 .. back, one for each
-abbrev pub backs : ℕ → List Numbered → List Part
-backs i [] = []
-backs i (t ∷ ts) = back i ∷ backs (suc i) ts
-
--- the trees ts stand, the last one's root first, at the end of the columns
-pub record At (o : Nodes) (ts : List Numbered) (F : Claim) (s : Nodes) : Type 0 where
+-- the trees ts stand, the last one's root first, at the end of the columns, whatever the cursor
+pub record At (o : Nodes) (ts : List Numbered) (F : Claim) (c : ℕ) (s : Nodes) (u : Unit {0}) : Type 0 where
   pub on : On o (above ts F) s
   pub placed : Placed (s .count) 1 ts
-
--- what is read is the root of a tree that stands, and that tree
-abbrev pub Yields : (Numbered → Nodes → Type 0) → ℕ → Tree → Nodes → Type 0
-Yields = Via root strip
-
--- a rule that reads one tree, whatever stands besides
-abbrev pub Follows : Nodes → Rule Nodes ℕ → Rule (Unit {0}) Tree → Type 0
-Follows o m m' = (F : Claim) → Sim o (At o [] F) (Yields (λ t. At o (t ∷ []) F)) m m'
-
-pub under :
-    {o : Nodes} {ts : List Numbered} {F : Claim} {m : Rule Nodes ℕ} {m' : Rule (Unit {0}) Tree} →
-    Follows o m m' → Sim o (At o ts F) (Yields (λ t. At o (t ∷ []) (above ts F))) m m'
-under {ts = ts} {F = F} h = record { run = λ c s k p. h (above ts F) .run c s k (record { on = p .on; placed = tt }) }
-
-pub pure-sim :
-    {o : Nodes} {G : Numbered → Nodes → Type 0} (t : Numbered) →
-    Sim o (G t) (Yields G) (pure (root t)) (pure (strip t))
-pure-sim t = record { run = λ c s k p. (refl, k, (t, refl, refl, p)) }
 
 all-above : (ts : List Numbered) (F : Claim) (s : Nodes) → holds (above ts F) s → All s (row ts) × holds F s
 all-above [] F s h = (tt, h)
@@ -87,31 +75,38 @@ above-all : (ts : List Numbered) (F : Claim) (s : Nodes) → All s (row ts) → 
 above-all [] F s a h = h
 above-all (t ∷ ts) F s a h = (a .0, above-all ts F s (a .1) h)
 
-module _ {o : Nodes} {P : Nodes → Type 0} {B : Type 0} {Q : ℕ → B → Nodes → Type 0} where
-  -- an append, whose claim is what the tree's builder reads
+strips-map : (ts : List Numbered) → forest (map strip ts) ≡ strips (row ts)
+strips-map [] = refl
+strips-map (t ∷ ts) = rw (strips-map ts) refl
+
+module _ {o : Nodes} {P : Known Nodes (Unit {0})} {B : Type 0} {Q : ℕ → B → Known Nodes (Unit {0})} where
+  -- an append, after which what it leaves in the columns is claimed
   pub append-sim :
       (k l : ℕ) (b : B) →
-      ((s : Nodes) → P s → s .count < length (s .kinds) →
+      ((c : ℕ) (s : Nodes) → P c s tt → s .count < length (s .kinds) →
       (F : Claim) × On o F (written s (s .count) k l (s .count + 1)) ×
-      Q (s .count) b (written s (s .count) k l (s .count + 1))) →
-      Sim o P Q (append k l) (pure b)
+      Q (s .count) b c (written s (s .count) k l (s .count + 1)) tt) →
+      Sim (Beside o) P Q (append k l) (pure b)
   unfolding append
-  append-sim k l b f = record { run = λ c s h p. go c s h p (ltb (s .count) (length (s .kinds))) refl }
+  append-sim k l b f = record {
+    run = λ c c' s s' e h p. rw (← e) (go c s h p (ltb (s .count) (length (s .kinds))) refl);
+  }
     where
       go :
-          (c : ℕ) (s : Nodes) → Kept o s → P s → (t : Bool) → ltb (s .count) (length (s .kinds)) ≡ t →
-          Both o Q (append k l c s .result) (append k l c s .cursor) (append k l c s .state) (ok b) c
-      go c s h p true e = let (F, x, y) = f s p (ltb-true (s .count) (length (s .kinds)) e) in rw e (refl, kept x, y)
-      go c s h p false e = rw e (h, inl refl)
+          (c : ℕ) (s : Nodes) → Kept o s → P c s tt → (t : Bool) → ltb (s .count) (length (s .kinds)) ≡ t →
+          Both (Beside o) Q (append k l c s .result) (append k l c s .cursor) (append k l c s .state) (ok b) c tt
+      go c s h p true e = let (F, x, y) = f c s p (ltb-true (s .count) (length (s .kinds)) e) in rw e (refl, kept x, y)
+      go c s h p false e = rw e (inl (inl refl, h))
 
 module _ {o : Nodes} {F : Claim} where
   -- a node whose parts stand before it
-  pub node-sim :
-      {ts : List Numbered} (k l : ℕ) → partsOf k ≡ backs 1 ts →
-      Sim o (At o ts F) (Yields (λ t. At o (t ∷ []) F)) (append k l) (pure (node k l (strips (row ts))))
+  pub node-beside :
+      {ts : List Numbered} (k l : ℕ) → Kind k (backs 1 ts) →
+      Sim (Beside o) (At o ts F) (Via root strip (λ t. At o (t ∷ []) F))
+      (append k l) (pure (node k l (forest (map strip ts))))
   unfolding parts
-  node-sim {ts} k l e =
-      append-sim k l (node k l (strips (row ts))) λ s p r.
+  node-beside {ts} k l e =
+      append-sim k l (node k l (forest (map strip ts))) λ c s p r.
       let d : links (partsOf k) ≡ false = rw e (unlinked 1 ts) in
       let on = turn
       {G = above (numbered (s .count) k l (row ts) ∷ []) F}
@@ -120,16 +115,24 @@ module _ {o : Nodes} {F : Claim} where
         b,
       ))
       (λ m. omega (arith, counts-above ts F m))
-      (appended k l r (p .on)) in
-      (_, on, (numbered (s .count) k l (row ts), refl, refl, record { on = on; placed = (refl, tt) }))
+      (appended k l r (p .on)) in (
+        _,
+        on,
+        (
+          numbered (s .count) k l (row ts),
+          refl,
+          rw (strips-map ts) refl,
+          record { on = on; placed = (refl, tt) },
+        ),
+      )
 
   -- a node without parts
-  pub leaf-sim :
-      {ts : List Numbered} (k l : ℕ) → partsOf k ≡ [] →
-      Sim o (At o ts F) (Yields (λ t. At o (t ∷ ts) F)) (append k l) (pure (node k l fnil))
+  pub leaf-beside :
+      {ts : List Numbered} (k l : ℕ) → Kind k [] →
+      Sim (Beside o) (At o ts F) (Via root strip (λ t. At o (t ∷ ts) F)) (append k l) (pure (node k l fnil))
   unfolding parts
-  leaf-sim {ts} k l e =
-      append-sim k l (node k l fnil) λ s p r.
+  leaf-beside {ts} k l e =
+      append-sim k l (node k l fnil) λ c s p r.
       let on = turn
       {G = above (numbered (s .count) k l rnil ∷ ts) F}
       (λ h. ((h .0 .0, rw e (h .0 .1), rw (h .0 .0, e), tt), h .1))
@@ -146,13 +149,13 @@ module _ {o : Nodes} {F : Claim} where
       )
 
   -- a node that links to a tree among the others
-  pub link-sim :
-      {ts : List Numbered} (k : ℕ) (u : Numbered) → partsOf k ≡ linked ∷ [] →
-      Sim o (At o ts (tree u ⋆ F)) (Yields (λ t. At o (t ∷ ts) F))
+  pub link-beside :
+      {ts : List Numbered} (k : ℕ) (u : Numbered) → Kind k (linked ∷ []) →
+      Sim (Beside o) (At o ts (tree u ⋆ F)) (Via root strip (λ t. At o (t ∷ ts) F))
       (append k (root u)) (pure (node k 0 (fcons (strip u) fnil)))
   unfolding parts
-  link-sim {ts} k u e =
-      append-sim k (root u) (node k 0 (fcons (strip u) fnil)) λ s p r.
+  link-beside {ts} k u e =
+      append-sim k (root u) (node k 0 (fcons (strip u) fnil)) λ c s p r.
       let on = turn
       {G = above (numbered (s .count) k 0 (rcons u rnil) ∷ ts) F}
       (λ h. let (a, b) = all-above ts (tree u ⋆ F) _ (h .1) in (

@@ -1,201 +1,214 @@
--- Rules with columns that read what rules with trees read, and keep the frame.
-use Prim.Native.Nat.{ℕ, zero, suc, _+_}
+-- When two rules agree, each over its own row and state: a simulation of the left one by the right one.
+--
+-- A theorem on two readings, as demand 3 is one on the columns and the trees, is an instance of one proof over all rules:
+-- - `Relation`, below, says how the two readings are related: which cursors belong together, what is true of both
+--   states throughout, and what is known of refusals.
+-- - `Rows` and `Model`, in Model, are what is asked of the two rows and of the two builders.
+-- - Types, Expressions and Declarations, with the files that they use, show from these two alone that every rule agrees
+--   with itself. They say nothing of columns or trees.
+-- So a new theorem is a relation, with its `Rows` and its `Model`; `type-rule`, `expression-rule`, `constant-rule`,
+-- `struct-rule` and `word-rule` then give what it says of the five rules. A new reading rule gets its agreement in one
+-- of these files, a line for each of its steps, and every theorem holds of it too. Beside is the instance of demand 3.
+--
+-- `Sim` is the agreement. The laws of this file make the agreement of a rule from that of the rules it is made of.
+use Prim.Native.Nat.{ℕ}
 use mathlib.Core.Bool.{Bool, true, false}
 use mathlib.Core.Logic.{_⊎_, inl, inr}
 use mathlib.Core.Path.{_≡_, refl}
 use mathlib.Core.List.{List, [], _∷_}
 use lib.Dec.{eqb}
-use Rattle.rules.specs.Codes.{pick, refusalOf}
-use Rattle.rules.specs.Codes.Refusal as Refusal
-use Rattle.rules.specs.Reading.{Rule, Result, ok, no, next, _>>=_, pure, refuse, here}
-use Rattle.rules.specs.Reading.{Row, kindOf, peek, take, consume, optional, choose}
-use Rattle.rules.specs.Reading.{Step, again, done, onward, repeat, loop}
-use Rattle.rules.specs.Columns.{Nodes}
-use Rattle.rules.specs.Demand.{Kept}
+use Rattle.rules.specs.Codes.{pick}
+use Rattle.rules.specs.Reading.{Rule, Result, ok, no, next, _>>=_, pure, refuse, choose}
 
 infixr 20 _then_
 infixr 20 _same_
+infixr 20 _for_
 infixr 20 _or_
-module _ {A B : Type 0} where
-  -- what both give agrees, and the columns are o but for what was appended:
-  -- Q holds of what is read, or both refuse alike, or the slots are used up
-  abbrev pub Both : Nodes → (A → B → Nodes → Type 0) → Result A → ℕ → Nodes → Result B → ℕ → Type 0
-  Both o Q (ok a) c s (ok b) c' = (c ≡ c') × Kept o s × Q a b s
-  Both o Q (ok a) c s (no x y z) c' = ⊥
-  Both o Q (no x y z) c s r c' = Kept o s × ((x ≡ Refusal.NoSlot) ⊎ ((r ≡ no x y z) × (c ≡ c')))
+-- How two readings, with states in S and in S', are related.
+pub record Relation (S S' : Type 0) : Type 1 where
+  -- the two cursors belong together
+  pub Cursors : ℕ → ℕ → Type 0
+  -- what is true of both states from the start to the end
+  pub States : S → S' → Type 0
+  -- a refusal of the left reading, by number, cursor and state, that the right one need not share
+  pub Excused : ℕ → ℕ → S → Type 0
+  -- what is true of the number of a refusal that both give
+  pub Shared : ℕ → Type 0
 
-  -- from columns with P the two rules agree
-  pub record Sim (o : Nodes) (P : Nodes → Type 0) (Q : A → B → Nodes → Type 0)
-      (m : Rule Nodes A) (m' : Rule (Unit {0}) B) : Type 0 where
+-- what is known of both states, and of the left cursor, between two steps
+abbrev pub Known : Type 0 → Type 0 → Type 1
+Known S S' = ℕ → S → S' → Type 0
+
+-- a token's number in both rows
+pub record Token {S S' : Type 0} (rel : Relation S S') : Type 0 where
+  pub left : ℕ
+  pub right : ℕ
+  pub both : rel .Cursors left right
+
+-- the right reading refuses with the same number, at the same tokens
+pub record Refused {S S' : Type 0} (rel : Relation S S') {B : Type 0}
+    (x y z c : ℕ) (s : S) (r : Result B) (c' : ℕ) (s' : S') : Type 0 where
+  pub start : ℕ
+  pub end : ℕ
+  pub reply : r ≡ no x start end
+  pub number : rel .Shared x
+  pub starts : rel .Cursors y start
+  pub ends : rel .Cursors z end
+  pub cursor : rel .Cursors c c'
+  pub states : rel .States s s'
+
+module _ {S S' : Type 0} (rel : Relation S S') {A B : Type 0} where
+  -- Q holds of what both read, or both refuse alike, or the left one's refusal is excused
+  abbrev pub Both : (A → B → Known S S') → Result A → ℕ → S → Result B → ℕ → S' → Type 0
+  Both Q (ok a) c s (ok b) c' s' = rel .Cursors c c' × rel .States s s' × Q a b c s s'
+  Both Q (ok a) c s (no x y z) c' s' = ⊥
+  Both Q (no x y z) c s r c' s' = rel .Excused x c s ⊎ Refused rel x y z c s r c' s'
+
+  -- The two rules agree: where P is known at the start, both read something of which Q is known at the end, or refuse.
+  pub record Sim (P : Known S S') (Q : A → B → Known S S') (m : Rule S A) (m' : Rule S' B) : Type 0 where
     pub run :
-        (c : ℕ) (s : Nodes) → Kept o s → P s →
-        Both o Q (m c s .result) (m c s .cursor) (m c s .state) (m' c tt .result) (m' c tt .cursor)
+        (c c' : ℕ) (s : S) (s' : S') → rel .Cursors c c' → rel .States s s' → P c s s' →
+        Both Q (m c s .result) (m c s .cursor) (m c s .state) (m' c' s' .result) (m' c' s' .cursor) (m' c' s' .state)
 
-module _ {o : Nodes} {A B C D : Type 0} {Q : A → B → Nodes → Type 0} {R : C → D → Nodes → Type 0}
-    {f : A → Rule Nodes C} {f' : B → Rule (Unit {0}) D} where
+module _ {S S' : Type 0} {rel : Relation S S'} {A B C D : Type 0}
+    {Q : A → B → Known S S'} {R : C → D → Known S S'} {f : A → Rule S C} {f' : B → Rule S' D} where
   both-next :
-      ((a : A) (b : B) → Sim o (Q a b) R (f a) (f' b)) →
-      (r : Result A) (c : ℕ) (s : Nodes) (r' : Result B) (c' : ℕ) → Both o Q r c s r' c' →
-      Both o R (next r c s f .result) (next r c s f .cursor) (next r c s f .state)
-      (next r' c' tt f' .result) (next r' c' tt f' .cursor)
-  both-next g (ok a) c s (ok b) c' h = rw (← h .0) (g a b .run c s (h .1) (h .2))
-  both-next g (ok a) c s (no x y z) c' h = absurd h
-  both-next g (no x y z) c s r' c' h = (h .0, elim (h .1) [ inl e ↦ inl e | inr e ↦ inr (rw (e .0) (refl, e .1)) ])
+      ((a : A) (b : B) → Sim rel (Q a b) R (f a) (f' b)) →
+      (r : Result A) (c : ℕ) (s : S) (r' : Result B) (c' : ℕ) (s' : S') → Both rel Q r c s r' c' s' →
+      Both rel R (next r c s f .result) (next r c s f .cursor) (next r c s f .state)
+      (next r' c' s' f' .result) (next r' c' s' f' .cursor) (next r' c' s' f' .state)
+  both-next g (ok a) c s (ok b) c' s' h = g a b .run c c' s s' (h .0) (h .1) (h .2)
+  both-next g (ok a) c s (no x y z) c' s' h = absurd h
+  both-next g (no x y z) c s r' c' s' h = elim h [
+    | inl e ↦ inl e
+    | inr e ↦ inr (rw (e .reply) (record {
+      start = e .start;
+      end = e .end;
+      reply = refl;
+      number = e .number;
+      starts = e .starts;
+      ends = e .ends;
+      cursor = e .cursor;
+      states = e .states;
+    }))
+  ]
 
+  -- two rules, and then those that are made of what they read
   pub _then_ :
-      {P : Nodes → Type 0} {m : Rule Nodes A} {m' : Rule (Unit {0}) B} →
-      Sim o P Q m m' → ((a : A) (b : B) → Sim o (Q a b) R (f a) (f' b)) → Sim o P R (m >>= f) (m' >>= f')
+      {P : Known S S'} {m : Rule S A} {m' : Rule S' B} →
+      Sim rel P Q m m' → ((a : A) (b : B) → Sim rel (Q a b) R (f a) (f' b)) → Sim rel P R (m >>= f) (m' >>= f')
   unfolding _>>=_
   _then_ {P} {m} {m'} h g = record {
-    run = λ c s k p.
-        both-next g (m c s .result) (m c s .cursor) (m c s .state) (m' c tt .result) (m' c tt .cursor)
-        (h .run c s k p);
+    run = λ c c' s s' e k p.
+        both-next g (m c s .result) (m c s .cursor) (m c s .state) (m' c' s' .result) (m' c' s' .cursor)
+        (m' c' s' .state) (h .run c c' s s' e k p);
   }
 
--- the same is read by both, and T of it, and P stays
-abbrev pub Alike : {A : Type 0} → (A → Type 0) → (Nodes → Type 0) → A → A → Nodes → Type 0
-Alike T P a b s = (a ≡ b) × T a × P s
+-- Both read the same, of which T holds, and P is known.
+abbrev pub Alike : {S S' A : Type 0} → (A → Type 0) → Known S S' → A → A → Known S S'
+Alike T P a b c s s' = (a ≡ b) × T a × P c s s'
 
 abbrev pub Any : {A : Type 0} → A → Type 0
 Any a = Unit {0}
 
-module _ {o : Nodes} {A C D : Type 0} {T : A → Type 0} {P' : Nodes → Type 0} {R : C → D → Nodes → Type 0}
-    {f : A → Rule Nodes C} {f' : A → Rule (Unit {0}) D} where
-  pub alike : ((a : A) → T a → Sim o P' R (f a) (f' a)) → (a b : A) → Sim o (Alike T P' a b) R (f a) (f' b)
-  alike g a b = record { run = λ c s k q. rw (← q .0) (g a (q .1) .run c s k (q .2)) }
+module _ {S S' : Type 0} {rel : Relation S S'} {A C D : Type 0} {T : A → Type 0}
+    {Q : Known S S'} {R : C → D → Known S S'} {f : A → Rule S C} {f' : A → Rule S' D} where
+  pub alike : ((a : A) → T a → Sim rel Q R (f a) (f' a)) → (a b : A) → Sim rel (Alike T Q a b) R (f a) (f' b)
+  alike g a b = record { run = λ c c' s s' e k q. rw (← q .0) (g a (q .1) .run c c' s s' e k (q .2)) }
 
   pub _same_ :
-      {P : Nodes → Type 0} {m : Rule Nodes A} {m' : Rule (Unit {0}) A} →
-      Sim o P (Alike T P') m m' → ((a : A) → T a → Sim o P' R (f a) (f' a)) → Sim o P R (m >>= f) (m' >>= f')
+      {P : Known S S'} {m : Rule S A} {m' : Rule S' A} →
+      Sim rel P (Alike T Q) m m' → ((a : A) → T a → Sim rel Q R (f a) (f' a)) → Sim rel P R (m >>= f) (m' >>= f')
   _same_ h g = h then alike g
 
-module _ {o : Nodes} {P : Nodes → Type 0} where
-  pub here-sim : Sim o P (Alike Any P) here here
-  unfolding here
-  here-sim = record { run = λ c s k p. (refl, k, (refl, tt, p)) }
+-- What the two read is what α and β make of one thing (a node by its two forms, say), of which G is known.
+abbrev pub Via : {S S' I A B : Type 0} → (I → A) → (I → B) → (I → Known S S') → A → B → Known S S'
+Via {I = I} α β G a b c s s' = (i : I) × (α i ≡ a) × (β i ≡ b) × G i c s s'
 
-  pub peek-sim : (row : Row) → Sim o P (Alike Any P) (peek row) (peek row)
-  unfolding peek
-  peek-sim row = record { run = λ c s k p. (refl, k, (refl, tt, p)) }
+-- Rules made of what was read agree, whatever that one thing is. It is a record so that the checker finds f and f'.
+pub record Each {S S' : Type 0} (rel : Relation S S') {I A B C D : Type 0} (α : I → A) (β : I → B)
+    (G : I → Known S S') (R : C → D → Known S S') (f : A → Rule S C) (f' : B → Rule S' D) : Type 0 where
+  pub agree : (i : I) → Sim rel (G i) R (f (α i)) (f' (β i))
 
-  pub take-sim : (row : Row) → Sim o P (Alike Any P) (take row) (take row)
-  unfolding take
-  take-sim row = record { run = λ c s k p. (refl, k, (refl, tt, p)) }
+module _ {S S' : Type 0} {rel : Relation S S'} {I A B C D : Type 0} {α : I → A} {β : I → B}
+    {G : I → Known S S'} {R : C → D → Known S S'} {f : A → Rule S C} {f' : B → Rule S' D} where
+  pub each : ((i : I) → Sim rel (G i) R (f (α i)) (f' (β i))) → Each rel α β G R f f'
+  each g = record { agree = g }
 
-  pub consume-sim : (row : Row) (kind : ℕ) → Sim o P (Alike Any P) (consume row kind) (consume row kind)
-  unfolding consume
-  consume-sim row kind = record { run = λ c s k p. go (eqb (kindOf row c) kind) c s k p }
+  pub opens : Each rel α β G R f f' → (a : A) (b : B) → Sim rel (Via α β G a b) R (f a) (f' b)
+  opens g a b = record {
+    run = λ c c' s s' e k q. rw (← q .1, ← q .2) (g .agree (q .0) .run c c' s s' e k (q .3));
+  }
+
+  pub _for_ :
+      {P : Known S S'} {m : Rule S A} {m' : Rule S' B} →
+      Sim rel P (Via α β G) m m' → Each rel α β G R f f' → Sim rel P R (m >>= f) (m' >>= f')
+  _for_ h g = h then opens g
+
+module _ {S S' : Type 0} {rel : Relation S S'} {A B : Type 0} {P : Known S S'} {Q : A → B → Known S S'} where
+  -- both read, and take no token
+  pub gives : {a : A} {b : B} → ((c : ℕ) (s : S) (s' : S') → P c s s' → Q a b c s s') → Sim rel P Q (pure a) (pure b)
+  gives h = record { run = λ c c' s s' e k p. (e, k, h c s s' p) }
+
+  -- more is known at the start than is needed
+  pub eased :
+      {P' : Known S S'} {m : Rule S A} {m' : Rule S' B} →
+      ((c : ℕ) (s : S) (s' : S') → P c s s' → P' c s s') → Sim rel P' Q m m' → Sim rel P Q m m'
+  eased f h = record { run = λ c c' s s' e k p. h .run c c' s s' e k (f c s s' p) }
+
+  -- more is known at the end than is said
+  pub loosened :
+      {Q' : A → B → Known S S'} {m : Rule S A} {m' : Rule S' B} →
+      ((a : A) (b : B) (c : ℕ) (s : S) (s' : S') → Q a b c s s' → Q' a b c s s') →
+      Sim rel P Q m m' → Sim rel P Q' m m'
+  loosened {Q'} {m} {m'} f h = record {
+    run = λ c c' s s' e k p.
+        go (m c s .result) (m c s .cursor) (m c s .state) (m' c' s' .result) (m' c' s' .cursor) (m' c' s' .state)
+        (h .run c c' s s' e k p);
+  }
     where
       go :
-          (b : Bool) (c : ℕ) (s : Nodes) → Kept o s → P s →
-          Both o (Alike Any P) (pick b (ok (tt {0})) (no (refusalOf kind) c c)) (c + 1) s
-          (pick b (ok (tt {0})) (no (refusalOf kind) c c)) (c + 1)
-      go true c s k p = (refl, k, (refl, tt, p))
-      go false c s k p = (k, inr (refl, refl))
+          (r : Result A) (c : ℕ) (s : S) (r' : Result B) (c' : ℕ) (s' : S') →
+          Both rel Q r c s r' c' s' → Both rel Q' r c s r' c' s'
+      go (ok a) c s (ok b) c' s' d = (d .0, d .1, f a b c s s' (d .2))
+      go (ok a) c s (no x y z) c' s' d = absurd d
+      go (no x y z) c s r' c' s' d = d
 
-  pub optional-sim : (row : Row) (kind : ℕ) → Sim o P (Alike Any P) (optional row kind) (optional row kind)
-  unfolding optional
-  optional-sim row kind = record { run = λ c s k p. (refl, k, (refl, tt, p)) }
+  -- both refuse
+  pub refuse-sim :
+      {n : ℕ} → rel .Shared n → (x y : Token rel) →
+      Sim rel P Q (refuse n (x .left) (y .left)) (refuse n (x .right) (y .right))
+  refuse-sim h x y = record {
+    run = λ c c' s s' e k p. inr (record {
+      start = x .right;
+      end = y .right;
+      reply = refl;
+      number = h;
+      starts = x .both;
+      ends = y .both;
+      cursor = e;
+      states = k;
+    });
+  }
 
-  pub pure-alike : {A : Type 0} {T : A → Type 0} {a : A} → T a → Sim o P (Alike T P) (pure a) (pure a)
-  pure-alike h = record { run = λ c s k p. (refl, k, (refl, h, p)) }
-
-  pub refuse-sim : {A B : Type 0} {Q : A → B → Nodes → Type 0} {n x y : ℕ} → Sim o P Q (refuse n x y) (refuse n x y)
-  refuse-sim = record { run = λ c s k p. (k, inr (refl, refl)) }
-
-module _ {o : Nodes} {A B : Type 0} {P : Nodes → Type 0} {Q : A → B → Nodes → Type 0} where
   pub pick-sim :
-      (b : Bool) {m n : Rule Nodes A} {m' n' : Rule (Unit {0}) B} →
-      Sim o P Q m m' → Sim o P Q n n' → Sim o P Q (pick b m n) (pick b m' n')
+      (b : Bool) {m n : Rule S A} {m' n' : Rule S' B} →
+      Sim rel P Q m m' → Sim rel P Q n n' → Sim rel P Q (pick b m n) (pick b m' n')
   pick-sim true h g = h
   pick-sim false h g = g
 
--- tables of rules with the same keys
-pub data Cases {A B : Type 0} (o : Nodes) (P : Nodes → Type 0) (Q : A → B → Nodes → Type 0) :
-    List (ℕ × Rule Nodes A) → Rule Nodes A → List (ℕ × Rule (Unit {0}) B) → Rule (Unit {0}) B → Type 0 where
-  other : {d : Rule Nodes A} {d' : Rule (Unit {0}) B} → Sim o P Q d d' → Cases o P Q [] d [] d'
+-- two tables of rules with the same keys, and a rule for any other key
+pub data Cases {S S' : Type 0} (rel : Relation S S') {A B : Type 0} (P : Known S S') (Q : A → B → Known S S') :
+    List (ℕ × Rule S A) → Rule S A → List (ℕ × Rule S' B) → Rule S' B → Type 0 where
+  other : {d : Rule S A} {d' : Rule S' B} → Sim rel P Q d d' → Cases rel P Q [] d [] d'
   _or_ :
-      {k : ℕ} {m d : Rule Nodes A} {es : List (ℕ × Rule Nodes A)}
-      {m' d' : Rule (Unit {0}) B} {es' : List (ℕ × Rule (Unit {0}) B)} →
-      Sim o P Q m m' → Cases o P Q es d es' d' → Cases o P Q ((k, m) ∷ es) d ((k, m') ∷ es') d'
+      {k : ℕ} {m d : Rule S A} {es : List (ℕ × Rule S A)} {m' d' : Rule S' B} {es' : List (ℕ × Rule S' B)} →
+      Sim rel P Q m m' → Cases rel P Q es d es' d' → Cases rel P Q ((k, m) ∷ es) d ((k, m') ∷ es') d'
 
-module _ {o : Nodes} {A B : Type 0} {P : Nodes → Type 0} {Q : A → B → Nodes → Type 0} where
+module _ {S S' : Type 0} {rel : Relation S S'} {A B : Type 0} {P : Known S S'} {Q : A → B → Known S S'} where
   pub choose-sim :
-      (k : ℕ) {d : Rule Nodes A} {es : List (ℕ × Rule Nodes A)}
-      {d' : Rule (Unit {0}) B} {es' : List (ℕ × Rule (Unit {0}) B)} →
-      Cases o P Q es d es' d' → Sim o P Q (choose k es d) (choose k es' d')
+      (k : ℕ) {d : Rule S A} {es : List (ℕ × Rule S A)} {d' : Rule S' B} {es' : List (ℕ × Rule S' B)} →
+      Cases rel P Q es d es' d' → Sim rel P Q (choose k es d) (choose k es' d')
   unfolding choose
   choose-sim k (other h) = h
   choose-sim k (_or_ {k = j} h hs) = pick-sim (eqb k j) h (choose-sim k hs)
-
--- what is read by the two is what two functions make of one thing, of which G holds
-abbrev pub Via : {I A B : Type 0} → (I → A) → (I → B) → (I → Nodes → Type 0) → A → B → Nodes → Type 0
-Via {I} α β G a b s = (i : I) × (α i ≡ a) × (β i ≡ b) × G i s
-
-module _ {o : Nodes} {I A B C D : Type 0} {α : I → A} {β : I → B}
-    {G : I → Nodes → Type 0} {R : C → D → Nodes → Type 0} where
-  pub opens :
-      (f : A → Rule Nodes C) (f' : B → Rule (Unit {0}) D) → ((i : I) → Sim o (G i) R (f (α i)) (f' (β i))) →
-      (a : A) (b : B) → Sim o (Via α β G a b) R (f a) (f' b)
-  opens f f' g a b = record { run = λ c s k q. rw (← q .1, ← q .2) (g (q .0) .run c s k (q .3)) }
-
-  pub grow :
-      {P : Nodes → Type 0} {m : Rule Nodes A} {m' : Rule (Unit {0}) B}
-      (f : A → Rule Nodes C) (f' : B → Rule (Unit {0}) D) →
-      Sim o P (Via α β G) m m' → ((i : I) → Sim o (G i) R (f (α i)) (f' (β i))) → Sim o P R (m >>= f) (m' >>= f')
-  grow f f' h g = h then opens f f' g
-
--- both read, without a token
-pub gives :
-    {o : Nodes} {A B : Type 0} {P : Nodes → Type 0} {Q : A → B → Nodes → Type 0} {a : A} {b : B} →
-    ((s : Nodes) → P s → Q a b s) → Sim o P Q (pure a) (pure b)
-gives h = record { run = λ c s k p. (refl, k, h s p) }
-
-pub eased :
-    {o : Nodes} {A B : Type 0} {P P' : Nodes → Type 0} {Q : A → B → Nodes → Type 0}
-    {m : Rule Nodes A} {m' : Rule (Unit {0}) B} →
-    ((s : Nodes) → P s → P' s) → Sim o P' Q m m' → Sim o P Q m m'
-eased f h = record { run = λ c s k p. h .run c s k (f s p) }
-
--- rounds: Q holds between them and R after the last
-abbrev pub Stepped :
-    {A B C D : Type 0} → (A → B → Nodes → Type 0) → (C → D → Nodes → Type 0) →
-    Step A C → Step B D → Nodes → Type 0
-Stepped Q R (again a) (again b) s = Q a b s
-Stepped Q R (again a) (done d) s = ⊥
-Stepped Q R (done c) (again b) s = ⊥
-Stepped Q R (done c) (done d) s = R c d s
-
-module _ {o : Nodes} {A B C D : Type 0} {Q : A → B → Nodes → Type 0} {R : C → D → Nodes → Type 0} where
-  onward-sim :
-      {k : A → Rule Nodes C} {k' : B → Rule (Unit {0}) D} → ((a : A) (b : B) → Sim o (Q a b) R (k a) (k' b)) →
-      (r : Step A C) (r' : Step B D) → Sim o (Stepped Q R r r') R (onward r k) (onward r' k')
-  onward-sim g (again a) (again b) = g a b
-  onward-sim g (again a) (done d) = record { run = λ c s k p. absurd p }
-  onward-sim g (done x) (again b) = record { run = λ c s k p. absurd p }
-  onward-sim g (done x) (done d) = gives (λ s p. p)
-
-  pub repeat-sim :
-      {f : A → Rule Nodes (Step A C)} {f' : B → Rule (Unit {0}) (Step B D)}
-      {over : Rule Nodes C} {over' : Rule (Unit {0}) D} →
-      ((a : A) (b : B) → Sim o (Q a b) (Stepped Q R) (f a) (f' b)) →
-      ((a : A) (b : B) → Sim o (Q a b) R over over') →
-      (n : ℕ) (a : A) (b : B) → Sim o (Q a b) R (repeat f over n a) (repeat f' over' n b)
-  unfolding repeat
-  repeat-sim h e zero a b = e a b
-  repeat-sim h e (suc n) a b = h a b then λ r r'. onward-sim (repeat-sim h e n) r r'
-
-  pub loop-sim :
-      (row : Row) {f : A → Rule Nodes (Step A C)} {f' : B → Rule (Unit {0}) (Step B D)} →
-      ((a : A) (b : B) → Sim o (Q a b) (Stepped Q R) (f a) (f' b)) →
-      (a : A) (b : B) → Sim o (Q a b) R (loop row f a) (loop row f' b)
-  unfolding loop
-  loop-sim row h a b = repeat-sim h (λ _ _. refuse-sim) _ a b
-
--- rounds that append nothing
-pub quiet-loop :
-    {o : Nodes} {A C : Type 0} {P : Nodes → Type 0}
-    (row : Row) {f : A → Rule Nodes (Step A C)} {f' : A → Rule (Unit {0}) (Step A C)} →
-    ((a : A) → Sim o P (Stepped (Alike {A = A} Any P) (Alike {A = C} Any P)) (f a) (f' a)) →
-    (a : A) → Sim o P (Alike Any P) (loop row f a) (loop row f' a)
-quiet-loop {A = A} row h a = eased (λ s p. (refl, tt, p)) (loop-sim row (alike {T = Any {A = A}} (λ b _. h b)) a a)

@@ -1,80 +1,99 @@
--- The rules for types, with columns and with trees.
+-- The rules for types agree, over any two rows and builders of a model.
 use Prim.Native.Nat.{ℕ, zero, suc, _+_}
-use mathlib.Core.Path.{_≡_, refl}
+use mathlib.Core.Path.{refl}
 use mathlib.Core.List.{[], _∷_}
 use lib.Dec.{ltb}
-use Rattle.rules.specs.Codes.{back, partsOf}
+use Rattle.rules.specs.Codes.{back}
 use Rattle.rules.specs.Reading.{Rule, Row}
-use Rattle.rules.specs.Trees.{Tree, trees}
-use Rattle.rules.specs.Columns.{Nodes, columns}
+use Rattle.rules.specs.Builder.{Builder}
 use Rattle.rules.specs.Types.{bracketed, arraySize, pointerTo, viewOf, arrayOf, innerFrom, innerType, type}
-use Rattle.rules.proofs.Sim.{Sim, Alike, other, _or_, _same_, grow}
-use Rattle.rules.proofs.Sim.{here-sim, take-sim, consume-sim, pure-alike, refuse-sim, pick-sim, choose-sim}
-use Rattle.rules.proofs.Grow.{Follows, pure-sim, node-sim, leaf-sim}
+use Rattle.rules.proofs.Sim.{Relation, Known, Sim, Via, other, _or_, _same_, _for_, each, gives}
+use Rattle.rules.proofs.Sim.{refuse-sim, pick-sim, choose-sim}
+use Rattle.rules.proofs.Model.{Rows, Model, Kind, Loaded, plus}
+use Rattle.rules.proofs.Steps.{Gains, Follows, spare, stays, node-sim, leaf-sim, here-sim, take-sim, consume-sim}
 
-module _ (o : Nodes) (row : Row) where
-  -- an array type has one part
-  abbrev Array : ℕ × ℕ → Type 0
-  Array a = partsOf (a .0) ≡ back 1 ∷ []
+-- an array type by its size: its kind, which has one part, and its load in both
+record Array {S S' : Type 0} (rel : Relation S S') : Type 0 where
+  kind : ℕ
+  left : ℕ
+  right : ℕ
+  part : Kind kind (back 1 ∷ [])
+  loads : Loaded rel kind left right
+
+module _ {B B' : Builder} {rel : Relation (B .S) (B' .S)} (M : Model B B' rel)
+    {row row' : Row} (R : Rows rel row row') where
+  open Model M using (Besides, At, shared)
+
+  abbrev Arrays : Known (B .S) (B' .S) → ℕ × ℕ → ℕ × ℕ → Known (B .S) (B' .S)
+  Arrays P = Via {I = Array rel} (λ a. (a .kind, a .left)) (λ a. (a .kind, a .right)) (λ _. P)
 
   bracketed-sim :
-      {P : Nodes → Type 0} (kind load : ℕ) → partsOf kind ≡ back 1 ∷ [] →
-      Sim o P (Alike Array P) (bracketed columns row kind load) (bracketed trees row kind load)
+      {x : ℕ} {F : Besides} (kind l l' : ℕ) → Kind kind (back 1 ∷ []) → Loaded rel kind l l' →
+      Sim rel (At x [] F) (Arrays (At (plus 5 x) [] F)) (bracketed B row kind l) (bracketed B' row' kind l')
   unfolding bracketed
-  bracketed-sim kind load e = consume-sim row _ same λ _ _. pure-alike e
+  bracketed-sim kind l l' e d =
+      consume-sim M R _ same λ _ _.
+      gives λ c s s' p. (record { kind = kind; left = l; right = l'; part = e; loads = d }, refl, refl, p)
 
-  array-size : {P : Nodes → Type 0} → Sim o P (Alike Array P) (arraySize columns row) (arraySize trees row)
+  array-size :
+      {x : ℕ} {F : Besides} → Sim rel (At x [] F) (Arrays (At (plus 5 x) [] F)) (arraySize B row) (arraySize B' row')
   unfolding arraySize
   array-size =
-      here-sim same λ at _.
-      take-sim row same λ size _.
-      choose-sim size (pure-alike refl or
-      bracketed-sim _ _ refl or
-      bracketed-sim _ _ refl or
-      bracketed-sim _ _ refl or
-      bracketed-sim _ _ refl or
-      other refuse-sim)
+      here-sim for each λ at.
+      take-sim M R same λ size _.
+      choose-sim size (
+      (gives λ c s s' p. (record { kind = _; left = 0; right = 0; part = refl; loads = refl }, refl, refl, p)) or
+      spare M 5 (bracketed-sim _ _ _ refl refl) or
+      spare M 5 (bracketed-sim _ _ _ refl refl) or
+      spare M 5 (bracketed-sim _ _ _ refl (at .both)) or
+      spare M 5 (bracketed-sim _ _ _ refl (at .both)) or
+      other (refuse-sim (shared _ refl) at at))
 
-  module _ {m : Rule Nodes ℕ} {m' : Rule (Unit {0}) Tree} (inner : Follows o m m') where
-    pointer-to : Follows o (pointerTo columns row m) (pointerTo trees row m')
+  module _ {m : Rule (B .S) (B .N)} {m' : Rule (B' .S) (B' .N)} (inner : Gains M 4 m m') where
+    pointer-to : Gains M 3 (pointerTo B row m) (pointerTo B' row' m')
     unfolding pointerTo
-    pointer-to F = grow _ _ (inner F) λ t. node-sim _ _ refl
+    pointer-to x F =
+        inner x F for each λ t.
+        node-sim M refl refl
 
-    view-of : Follows o (viewOf columns row m) (viewOf trees row m')
+    view-of : Gains M 4 (viewOf B row m) (viewOf B' row' m')
     unfolding viewOf
-    view-of F =
-        grow _ _ (inner F) λ t.
-        consume-sim row _ same λ _ _.
-        node-sim _ _ refl
+    view-of x F =
+        inner x F for each λ t.
+        consume-sim M R _ same λ _ _.
+        spare M 4 (node-sim M refl refl)
 
-    array-of : Follows o (arrayOf columns row m) (arrayOf trees row m')
+    array-of : Gains M 4 (arrayOf B row m) (arrayOf B' row' m')
     unfolding arrayOf
-    array-of F =
-        array-size same λ a e.
-        grow _ _ (inner F) λ t.
-        node-sim _ _ e
+    array-of x F =
+        array-size for each λ a.
+        inner _ F for each λ t.
+        spare M 4 (node-sim M (a .part) (a .loads))
 
-    inner-from : Follows o (innerFrom columns row m) (innerFrom trees row m')
+    inner-from : Gains M 4 (innerFrom B row m) (innerFrom B' row' m')
     unfolding innerFrom
-    inner-from F =
-        here-sim same λ at _.
-        take-sim row same λ k _.
-        choose-sim k (leaf-sim _ _ refl or
-        leaf-sim _ _ refl or
-        pointer-to F or
-        view-of F or
-        array-of F or
-        other refuse-sim)
+    inner-from x F =
+        here-sim for each λ at.
+        take-sim M R same λ k _.
+        choose-sim k (leaf-sim M refl (R .types _ _ (at .both)) or
+        leaf-sim M refl (at .both) or
+        spare M 4 (pointer-to _ F) or
+        spare M 5 (view-of x F) or
+        spare M 5 (array-of x F) or
+        other (refuse-sim (shared _ refl) at at))
 
-  inner-type : (unused : ℕ) → Follows o (innerType columns row unused) (innerType trees row unused)
+  inner-type : (unused : ℕ) → Gains M 4 (innerType B row unused) (innerType B' row' unused)
   unfolding innerType
-  inner-type zero F = here-sim same λ at _. refuse-sim
-  inner-type (suc unused) F = inner-from (inner-type unused) F
+  inner-type zero x F = here-sim for each λ at. refuse-sim (shared _ refl) at at
+  inner-type (suc unused) x F = inner-from (inner-type unused) x F
 
-  pub type-rule : (unused : ℕ) → Follows o (type columns row unused) (type trees row unused)
+  pub type-rule : (unused : ℕ) → Follows M (type B row unused) (type B' row' unused)
   unfolding type
-  type-rule unused F =
-      here-sim same λ start _.
-      grow _ _ (inner-type unused F) λ t.
-      here-sim same λ end _.
-      pick-sim (ltb (start + 1) end) (grow _ _ (leaf-sim _ _ refl) λ e. node-sim _ _ refl) (pure-sim t)
+  type-rule unused x F =
+      here-sim for each λ start.
+      inner-type unused x F for each λ t.
+      here-sim for each λ end.
+      rw (R .longer _ _ _ _ (start .both) (end .both)) (
+      pick-sim (ltb (start .right + 1) (end .right))
+      (spare M 2 (leaf-sim M refl (end .both) for each λ e. node-sim M refl (start .both)))
+      (spare M 4 (stays M t)))

@@ -1,4 +1,4 @@
--- The codes of document 01 under the Rust's names, and its two tables.
+-- The codes of document 01 under the Rust's names, and its tables.
 use Prim.Native.Nat.{ℕ}
 use mathlib.Core.Bool.{Bool, true, false}
 use mathlib.Core.List.{List, [], _∷_}
@@ -27,10 +27,10 @@ abbrev pub entry : {A : Type 0} → ℕ → List (ℕ × A) → A → A
 entry k [] d = d
 entry k (e ∷ es) d = pick (eqb k (e .0)) (e .1) (entry k es d)
 
--- The refusal's number by the kind that was expected, 0 where none is.
-abbrev pub refusalOf : ℕ → ℕ
-refusalOf k = entry k
-    (BaseToken.Assignment ⇒ Refusal.ExpectedAssignment
+-- The refusals' numbers by the kind that was expected.
+abbrev pub refusals : List (ℕ × ℕ)
+refusals =
+    BaseToken.Assignment ⇒ Refusal.ExpectedAssignment
     ∷ BaseToken.BraceLeft ⇒ Refusal.ExpectedBraceLeft
     ∷ BaseToken.BraceRight ⇒ Refusal.ExpectedBraceRight
     ∷ BaseToken.BracketRight ⇒ Refusal.ExpectedBracketRight
@@ -40,8 +40,11 @@ refusalOf k = entry k
     ∷ BaseToken.Semicolon ⇒ Refusal.ExpectedSemicolon
     ∷ BaseToken.Identifier ⇒ Refusal.ExpectedIdentifier
     ∷ BaseToken.Comma ⇒ Refusal.ExpectedComma
-    ∷ [])
-    0
+    ∷ []
+
+-- the refusal's number for such a kind, 0 where there is none
+abbrev pub refusalOf : ℕ → ℕ
+refusalOf k = entry k refusals 0
 
 -- A part of a node (document 01, "Parts of a node"): the node so many places back, or the one that its load names.
 pub data Part : Type 0 where
@@ -82,3 +85,32 @@ partsOf k = entry k
     ∷ ParseNode.ViewVT ⇒ (back 1 ∷ [])
     ∷ [])
     []
+
+-- Whether a node's load is a token number, by its kind. Any other load is a link (see partsOf), a count, a code or 0.
+abbrev pub holdsToken : ℕ → Bool
+holdsToken k = entry k
+    (ParseNode.ConstantDeclaration ⇒ true
+    ∷ ParseNode.StructureDeclaration ⇒ true
+    ∷ ParseNode.Identifier ⇒ true
+    ∷ ParseNode.EndOfSpan ⇒ true
+    ∷ ParseNode.Deref ⇒ true
+    ∷ ParseNode.DerefStepMember ⇒ true
+    ∷ ParseNode.Binary ⇒ true
+    ∷ ParseNode.Unary ⇒ true
+    ∷ ParseNode.TypeCast ⇒ true
+    ∷ ParseNode.BitCast ⇒ true
+    ∷ ParseNode.CompositeValueType ⇒ true
+    ∷ ParseNode.CompositeStringLiteral ⇒ true
+    ∷ ParseNode.SimpleStringLiteral ⇒ true
+    ∷ ParseNode.UntypedIntegerLiteral ⇒ true
+    ∷ ParseNode.TypedIntegerLiteral ⇒ true
+    ∷ ParseNode.CharLiteral ⇒ true
+    ∷ ParseNode.BooleanLiteral ⇒ true
+    ∷ ParseNode.Structural ⇒ true
+    ∷ ParseNode.IdentifierAndType ⇒ true
+    ∷ ParseNode.IdentifierAndExpression ⇒ true
+    ∷ ParseNode.UnresolvedStructOrWordVT ⇒ true
+    ∷ ParseNode.ArrayVT ⇒ true
+    ∷ ParseNode.ArrayWithNamedLengthVT ⇒ true
+    ∷ [])
+    false
