@@ -236,5 +236,15 @@ REFUSALS = {
 PROGRAM_TOKENS = 4096
 PROGRAM_SLOTS = 8197
 
-# The entries of the program.
+# The entries by their numbers. The program penne-nodes has the first two.
+ENTRIES = ["expression", "type", "constant", "struct", "word"]
 EXPRESSION, VALUE_TYPE_ENTRY = 0, 1
+
+# The functions of the library for C, one for each entry.
+FUNCTIONS = [
+    "penne_parse_expression",
+    "penne_parse_type",
+    "penne_parse_constant_declaration",
+    "penne_parse_struct_declaration",
+    "penne_parse_word_declaration",
+]
