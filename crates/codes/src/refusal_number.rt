@@ -1,4 +1,4 @@
-// The refusals by number, as document 01 has them under "Replies by number".
+// The refusals by number: MANUAL.md, Refusals.
 pub struct Refusal(pub u8);
 
 impl Refusal {
