@@ -53,6 +53,16 @@ class Codes(unittest.TestCase):
         refusals = [(name, number) for number, (name, _) in codes.REFUSALS.items()]
         self.assertEqual(constants("refusal_number.rt"), refusals)
 
+    def test_the_specifications_have_the_same(self):
+        """Names and numbers of crates/rules/specs/Codes, which has one number more that no reply has."""
+        folder = os.path.join(ROOT, "crates/rules/specs/Codes")
+        for file in sorted(os.listdir(folder)):
+            name = re.sub(r"(?<=[a-z])(?=[A-Z])", "_", file.removesuffix(".antt")).lower()
+            with open(os.path.join(folder, file), encoding="utf-8") as specification:
+                found = re.findall(r"^(\w+) = (\d+)$", specification.read(), re.MULTILINE)
+            found = [(constant, int(number)) for constant, number in found if constant != "OutOfRounds"]
+            self.assertEqual(found, constants({"refusal": "refusal_number"}.get(name, name) + ".rt"), file)
+
     def test_linked(self):
         self.assertEqual(constants("part_code.rt"), [("Linked", codes.LINKED)])
 
