@@ -238,7 +238,7 @@ PROGRAM_SLOTS = 8197
 
 # The entries by their numbers. The program penne-nodes has the first two.
 ENTRIES = ["expression", "type", "constant", "struct", "word"]
-EXPRESSION, VALUE_TYPE_ENTRY = 0, 1
+PROGRAM_ENTRIES = (0, 1)
 
 # The functions of the library for C, one for each entry.
 FUNCTIONS = [

@@ -1,9 +1,9 @@
 """A line of Penne tokens, read as penne's lexer reads it, and written as the input of the program penne-nodes.
 
 Besides Penne's own spelling a token can be written by the name of its kind: `Identifier`, `Plus`. The two kinds with a
-value type can have it after a colon, without spaces: `SuffixedInteger:i32`, `ValueTypeKeyword:bool`. An identifier that
-is called as a kind is has a backslash before it: `\\Plus`. `#62` is a token of the kind 62, and `#52:15` has the value type
-15 too, whether or not there are such. `200×(` is 200 times `(`.
+value type can have it after a colon, without spaces: `SuffixedInteger:i32`, `ValueTypeKeyword:bool`. An identifier
+that is called as a kind is has a backslash before it: `\\Plus`. `#62` is a token of the kind 62, and `#52:15` has the
+value type 15 too, whether or not there are such. `200×(` is 200 times `(`.
 """
 
 import collections
@@ -63,11 +63,30 @@ def tokens(line, end=True):
     return found
 
 
-def program_input(row, cursor, entry):
-    """What penne-nodes reads: three sizes, the kinds, the value types."""
+def program_input(row, cursor, entry, declared=(0, 0, 0)):
+    """What penne-nodes reads: three sizes, the kinds, the value types. For the entries that it does not have there are
+    three numbers more after the sizes: where the declaration begins, its flags, and the kind of its declaring token."""
     kinds = bytes(token.kind for token in row)
     value_types = bytes(token.value_type for token in row)
-    return struct.pack("<III", len(row), cursor, entry) + kinds + value_types
+    more = () if entry in codes.PROGRAM_ENTRIES else declared
+    sizes = struct.pack(f"<{3 + len(more)}I", len(row), cursor, entry, *more)
+    return sizes + kinds + value_types
+
+
+def read_input(data):
+    """The entry, the row, the cursor and the numbers of a declaration in such an input, or None for a bad file."""
+    if len(data) < 12:
+        return None
+    count, cursor, entry = struct.unpack_from("<III", data)
+    more = 0 if entry in codes.PROGRAM_ENTRIES else 12
+    if entry >= len(codes.ENTRIES) or len(data) != 12 + more + 2 * count:
+        return None
+    declared = struct.unpack_from("<III", data, 12) if more else (0, 0, 0)
+    if declared[2] > 255:
+        return None
+    kinds, value_types = data[12 + more : 12 + more + count], data[12 + more + count :]
+    row = [Token(kind, value_type, "") for kind, value_type in zip(kinds, value_types)]
+    return entry, row, cursor, declared
 
 
 def _times(line, at):

@@ -6,7 +6,7 @@ import unittest
 
 import penne_codes as codes
 import penne_library
-import penne_questions
+import questions
 import penne_tree
 from places import ROOT
 from test_codes import constants, parts_table
@@ -100,7 +100,7 @@ class Examples(unittest.TestCase):
     def test_a_row_for_each_refusal(self):
         for table in tables("Refusals"):
             for number, *_, row, reply in table:
-                first = self.answer(penne_questions.read(row.strip("`"))).split("\n")[0]
+                first = self.answer(questions.read(row.strip("`"))).split("\n")[0]
                 self.assertEqual(f"`{first}`", reply)
                 self.assertEqual(first.split(" ")[1], number)
 
@@ -109,7 +109,7 @@ class Examples(unittest.TestCase):
         self.assertGreater(len(blocks), 15)
         for block in blocks:
             asked, output, *drawing = block.split("--\n")
-            question = penne_questions.read(asked.rstrip("\n"))
+            question = questions.read(asked.rstrip("\n"))
             self.assertEqual(self.answer(question), output, asked)
             if drawing:
                 lines = penne_tree.picture(penne_tree.read(output), question.row)
