@@ -39,7 +39,7 @@ pub struct Slots<'a> {
     pub count: &'a mut u32,
 }
 
-/// Nodes that are lent for reading, from a [`Nodes`] or from two columns.
+/// Nodes that are lent for reading, from a [`Nodes`](crate::Nodes) or from two columns.
 ///
 /// ```
 /// use penne_parser::BaseToken::{Minus, NakedDecimal, Plus};

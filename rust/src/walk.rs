@@ -1,5 +1,6 @@
 //! A walk through a tree, and its drawing.
 
+use alloc::vec;
 use alloc::vec::Vec;
 use core::fmt;
 use core::iter::FusedIterator;
@@ -22,15 +23,14 @@ impl<'a> NodesRef<'a> {
     /// # Ok::<(), penne_parser::Refusal>(())
     /// ```
     pub fn walk(&self, root: NodeId) -> Walk<'a> {
-        let mut waiting = Vec::new();
-        waiting.push(Waiting {
+        let root = Waiting {
             node: root,
             depth: 0,
             is_last: true,
-        });
+        };
         Walk {
             nodes: *self,
-            waiting,
+            waiting: vec![root],
             left: self.len(),
         }
     }
