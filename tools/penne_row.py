@@ -35,6 +35,9 @@ NO_STRING = "the string is not closed, or has a control character or an unknown 
 # The most digits of a decimal number of 128 bits.
 DECIMAL_DIGITS = 39
 
+# The bytes of the three sizes with which an input begins, and of the three numbers of a declaration after them.
+SIZES, DECLARED = 12, 12
+
 # The kinds that have a value type.
 TYPED = (codes.KIND["ValueTypeKeyword"], codes.KIND["SuffixedInteger"])
 
@@ -75,16 +78,16 @@ def program_input(row, cursor, entry, declared=(0, 0, 0)):
 
 def read_input(data):
     """The entry, the row, the cursor and the numbers of a declaration in such an input, or None for a bad file."""
-    if len(data) < 12:
+    if len(data) < SIZES:
         return None
     count, cursor, entry = struct.unpack_from("<III", data)
-    more = 0 if entry in codes.PROGRAM_ENTRIES else 12
-    if entry >= len(codes.ENTRIES) or len(data) != 12 + more + 2 * count:
+    begin = SIZES if entry in codes.PROGRAM_ENTRIES else SIZES + DECLARED
+    if entry >= len(codes.ENTRIES) or len(data) != begin + 2 * count:
         return None
-    declared = struct.unpack_from("<III", data, 12) if more else (0, 0, 0)
+    declared = (0, 0, 0) if begin == SIZES else struct.unpack_from("<III", data, SIZES)
     if declared[2] > 255:
         return None
-    kinds, value_types = data[12 + more : 12 + more + count], data[12 + more + count :]
+    kinds, value_types = data[begin : begin + count], data[begin + count :]
     row = [Token(kind, value_type, "") for kind, value_type in zip(kinds, value_types)]
     return entry, row, cursor, declared
 

@@ -59,6 +59,24 @@ pub enum Entry {
     },
 }
 
+impl Entry {
+    /// The entry with this number, 0 to 4 in the order above, given what it reads of the rest.
+    pub fn numbered(number: u8, start: u32, flags: u32, declaring_token: u8) -> Option<Entry> {
+        Some(match number {
+            0 => Entry::Expression,
+            1 => Entry::Type,
+            2 => Entry::Constant { start, flags },
+            3 => Entry::Struct { start, flags },
+            4 => Entry::Word {
+                start,
+                flags,
+                declaring_token,
+            },
+            _ => return None,
+        })
+    }
+}
+
 /// Declares the entries of the library. All begin with the row, the cursor, the node columns and
 /// the count, and end with the place for the reply; what stands between them is given here.
 /// include/penne.h says what each does.

@@ -118,18 +118,8 @@ fn ours(
     cursor: u32,
     to: &mut Buffers,
 ) -> [u32; PLACES] {
-    let (start, flags) = (START, u32::from(FLAGS));
-    let entry = match entry {
-        Entry::Expression => raw::Entry::Expression,
-        Entry::Type => raw::Entry::Type,
-        Entry::Constant => raw::Entry::Constant { start, flags },
-        Entry::Struct => raw::Entry::Struct { start, flags },
-        Entry::Word => raw::Entry::Word {
-            start,
-            flags,
-            declaring_token: WORD,
-        },
-    };
+    let entry = raw::Entry::numbered(entry as u8, START, u32::from(FLAGS), WORD);
+    let entry = entry.expect("one of five");
     let slots = Slots {
         kinds: &mut to.node_kinds,
         loads: &mut to.node_loads,

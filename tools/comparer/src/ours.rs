@@ -1,8 +1,8 @@
 //! The proved parser, by the package for Rust.
 
 use comparer::compare::Parser;
-use comparer::question::{Entry, Question, Row};
-use penne_parser::raw::{self, PLACES};
+use comparer::question::{Question, Row};
+use penne_parser::raw::{self, Entry, PLACES};
 use penne_parser::{self as penne, Slots};
 
 pub struct Ours;
@@ -30,18 +30,7 @@ pub fn call(
     loads: &mut [u32],
     reply: &mut [u32],
 ) -> bool {
-    let (start, flags) = (q.start, q.flags);
-    let entry = match q.entry {
-        Entry::Expression => raw::Entry::Expression,
-        Entry::Type => raw::Entry::Type,
-        Entry::Constant => raw::Entry::Constant { start, flags },
-        Entry::Struct => raw::Entry::Struct { start, flags },
-        Entry::Word => raw::Entry::Word {
-            start,
-            flags,
-            declaring_token: q.word_kind,
-        },
-    };
+    let entry = Entry::numbered(q.entry as u8, q.start, q.flags, q.word_kind);
     let count = &mut { q.base };
     let slots = Slots {
         kinds,
@@ -49,5 +38,5 @@ pub fn call(
         count,
     };
     let row = penne::Row::new(row.kinds, row.types);
-    raw::parse(entry, row, q.cursor, slots, reply)
+    raw::parse(entry.expect("one of five"), row, q.cursor, slots, reply)
 }
