@@ -1,4 +1,4 @@
-//! Replies and nodes beside those of the Rust, which the oracle runs in this process.
+//! Replies and nodes beside those of Penne's own parser, which the oracle runs in this process.
 
 mod common;
 
@@ -126,7 +126,7 @@ impl Beside {
         self.mark_again(question.base, count);
     }
 
-    /// Whether the appended nodes are the Rust's, and the slots before and after them as they were.
+    /// Whether the appended nodes are the oracle's, and the slots before and after them as they were.
     fn nodes_agree(&self, base: u32, count: u32) -> bool {
         let (base, count) = (base as usize, count as usize);
         let node = |place: usize| (self.kinds[place], self.loads[place]);

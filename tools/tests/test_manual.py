@@ -33,6 +33,11 @@ def named(table):
     return [(row[1], int(row[0])) for row in table]
 
 
+def examples():
+    """The blocks of the section Examples."""
+    return re.findall(r"^```\n(.*?)^```$", section("Examples"), re.MULTILINE | re.DOTALL)
+
+
 class Tables(unittest.TestCase):
     def test_tokens(self):
         (table,) = tables("Tokens")
@@ -104,10 +109,13 @@ class Examples(unittest.TestCase):
                 self.assertEqual(f"`{first}`", reply)
                 self.assertEqual(first.split(" ")[1], number)
 
+    def test_each_kind_of_node_has_an_example(self):
+        nodes = [line.split() for block in examples() for line in block.split("--\n")[1].splitlines()[1:]]
+        appended = {number for number, _, _, parts in tables("Kinds of nodes")[0] if parts != "never appended"}
+        self.assertEqual({kind for _, kind, _ in nodes}, appended)
+
     def test_examples(self):
-        blocks = re.findall(r"^```\n(.*?)^```$", section("Examples"), re.MULTILINE | re.DOTALL)
-        self.assertGreater(len(blocks), 15)
-        for block in blocks:
+        for block in examples():
             asked, output, *drawing = block.split("--\n")
             question = questions.read(asked.rstrip("\n"))
             self.assertEqual(self.answer(question), output, asked)

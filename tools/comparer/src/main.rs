@@ -1,4 +1,4 @@
-//! Compares the proved parser with the Rust. The script tools/compare builds
+//! Compares the proved parser with upstream's. The script tools/compare builds
 //! and runs this; README.md says what is compared.
 
 mod ours;
