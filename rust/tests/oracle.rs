@@ -4,7 +4,7 @@ mod common;
 
 use std::collections::BTreeMap;
 
-use common::{Random, Writer};
+use common::{Writer, random, write_row};
 use oracle::{Buffer, Entry, Question, Reply};
 use penne_parser::{
     BaseToken, DeclarationFlags, Nodes, Parsed, Refusal, RefusalNumber, Row, Slots, TokenId,
@@ -147,8 +147,7 @@ impl Beside {
 /// every tenth few slots.
 fn random_case(writer: &mut Writer, case: usize, entry: Entry) -> (Vec<u8>, Question) {
     let special = case % 2 == 1;
-    writer.kinds.clear();
-    writer.row(entry);
+    write_row(writer, entry);
     let random = &mut writer.random;
     let cursor = if special { random.below(4) } else { 0 };
     let before = (0..cursor).map(|_| random.below(62) as u8);
@@ -182,10 +181,7 @@ fn random_rows() {
     };
     oracle::with_large_stack(|| {
         let mut beside = Beside::new();
-        let mut writer = Writer {
-            random: Random(1),
-            kinds: Vec::new(),
-        };
+        let mut writer = Writer::new(random(1));
         for case in 0..cases {
             let (kinds, question) = random_case(&mut writer, case, Entry::ALL[case % 5]);
             let types = kinds.iter().map(|_| writer.random.below(15) as u8);
@@ -207,7 +203,7 @@ fn random_rows() {
 fn rows_of_random_kinds() {
     oracle::with_large_stack(|| {
         let mut beside = Beside::new();
-        let mut random = Random(2);
+        let mut random = random(2);
         for case in 0..30_000 {
             let size = random.below(12);
             let kinds: Vec<u8> = (0..size).map(|_| random.below(62) as u8).collect();
@@ -257,10 +253,7 @@ fn rows_at_the_limits() {
 /// Five slots a token are enough, as `Nodes::reserve_for` has it.
 #[test]
 fn reserved_slots_are_enough() {
-    let mut writer = Writer {
-        random: Random(3),
-        kinds: Vec::new(),
-    };
+    let mut writer = Writer::new(random(3));
     for case in 0..30_000 {
         let (kinds, question) = random_case(&mut writer, 0, Entry::ALL[case % 5]);
         let types = vec![0; kinds.len()];
