@@ -11,9 +11,9 @@
  * the node holds: of a token, of a node, a count or a code. A token's number is its place in the row, a node's number
  * its place in the node columns. docs/MANUAL.md has a table of what each kind holds, and the nodes of each construct.
  *
- * The parts of a node are the nodes that it is made of, in a fixed order: the operator, the left and the right operand of
- * a Binary, for one. Each stands a number of places before the node that its kind decides, or is the node whose number
- * is the load. penne_part gives them; rust/examples/c/tree.c is a program that walks and prints a tree.
+ * The parts of a node are the nodes that it is made of, in a fixed order: the operator, the left and the right operand
+ * of a Binary, for one. Each stands a number of places before the node that its kind decides, or is the node whose
+ * number is the load. penne_part gives them; rust/examples/c/tree.c is a program that walks and prints a tree.
  *
  * The library allocates nothing, keeps nothing between calls and needs no other library, not even that of C. It reads
  * and writes only what it is lent, and uses less than 88 KiB of stack. Calls in several threads are fine as long as
@@ -44,8 +44,8 @@ extern "C" {
 #define PENNE_PART_LINKED 9
 
 /*
- * The places of an accepted reply. The last two places are 0. What was read may be less than the row: if the cursor is not
- * the place of EndOfSource, the tokens from it on were not read.
+ * The places of an accepted reply. The last two places are 0. What was read may be less than the row: if the cursor is
+ * not the place of EndOfSource, the tokens from it on were not read.
  */
 enum penne_accepted_reply {
     PENNE_ACCEPTED_ROOT = 1,
@@ -335,8 +335,8 @@ bool penne_parse_word_declaration(const uint8_t *kinds, size_t n, const uint8_t 
                                   uint32_t start, uint32_t flags, uint8_t declaring_token, uint32_t *reply, size_t k);
 
 /*
- * The part of a node of this kind at this place, counted from 0: k for the node k places before it, PENNE_PART_LINKED for the
- * node whose number is the load, and 0 where there is no such part. The parts of a kind come without a gap.
+ * The part of a node of this kind at this place, counted from 0: k if it stands k places before the node,
+ * PENNE_PART_LINKED if its number is the load, and 0 where there is no such part. The parts of a kind come without a gap.
  */
 uint8_t penne_part(uint8_t kind, uint8_t which);
 

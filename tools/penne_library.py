@@ -24,7 +24,7 @@ Question = collections.namedtuple("Question", "entry row cursor count slots load
 
 
 def question(entry, row, cursor=0, count=0, slots=codes.PROGRAM_SLOTS, load_slots=None, start=0, flags=0, word=None):
-    """A question with what is given; everything else is 0, the slots are those of penne-nodes, and a word is a word8."""
+    """A question with what is given; all else is 0, the slots are those of penne-nodes, and a word is a word8."""
     load_slots = slots if load_slots is None else load_slots
     word = codes.KIND["Word8"] if word is None else word
     return Question(entry, row, cursor, count, slots, load_slots, start, flags, word)
