@@ -9,10 +9,14 @@
  * penne_value_type_keyword), which is read only where the kind is ValueTypeKeyword or SuffixedInteger. The last token
  * is EndOfSource. The nodes are two columns too: a kind (enum penne_parse_node) and a load, which is the number that
  * the node holds: of a token, of a node, a count or a code. A token's number is its place in the row, a node's number
- * its place in the node columns.
+ * its place in the node columns. docs/MANUAL.md has a table of what each kind holds, and the nodes of each construct.
+ *
+ * The parts of a node are the nodes that it is made of, in a fixed order: the operator, the left and the right operand
+ * of a Binary, for one. Each stands a number of places before the node that its kind decides, or is the node whose
+ * number is the load. penne_part gives them; rust/examples/c/tree.c is a program that walks and prints a tree.
  *
  * The library allocates nothing, keeps nothing between calls and needs no other library, not even that of C. It reads
- * and writes only what it is lent, and uses at most some 90 KB of stack. Calls in several threads are fine as long as
+ * and writes only what it is lent, and uses less than 88 KiB of stack. Calls in several threads are fine as long as
  * they do not write to the same memory.
  */
 #ifndef PENNE_H
@@ -35,7 +39,14 @@ extern "C" {
 #define PENNE_ACCEPTED 0
 #define PENNE_REFUSED 1
 
-/* The places of an accepted reply. The last two places are 0. */
+/* A node has at most so many parts, and this is the code of one that the load names. */
+#define PENNE_MAX_PARTS 4
+#define PENNE_PART_LINKED 9
+
+/*
+ * The places of an accepted reply. The last two places are 0. What was read may be less than the row: if the cursor is
+ * not the place of EndOfSource, the tokens from it on were not read.
+ */
 enum penne_accepted_reply {
     PENNE_ACCEPTED_ROOT = 1,
     PENNE_ACCEPTED_CURSOR = 2,
@@ -322,6 +333,12 @@ bool penne_parse_struct_declaration(const uint8_t *kinds, size_t n, const uint8_
 bool penne_parse_word_declaration(const uint8_t *kinds, size_t n, const uint8_t *types, size_t n2, uint32_t cursor,
                                   uint8_t *node_kinds, size_t m, uint32_t *node_loads, size_t m2, uint32_t count,
                                   uint32_t start, uint32_t flags, uint8_t declaring_token, uint32_t *reply, size_t k);
+
+/*
+ * The part of a node of this kind at this place, counted from 0: k if it stands k places before the node,
+ * PENNE_PART_LINKED if its number is the load, and 0 where there is no such part. The parts of a kind come without a gap.
+ */
+uint8_t penne_part(uint8_t kind, uint8_t which);
 
 #ifdef __cplusplus
 }

@@ -4,7 +4,7 @@ A code is the place of its name in the list, unless a number stands beside the n
 the constants in crates/codes/src.
 """
 
-# Kinds of tokens: the Rust's BaseToken, each with its spelling if it has only one.
+# Kinds of tokens: upstream's BaseToken, each with its spelling if it has only one.
 BASE_TOKENS = [
     ("EndOfSource", None),
     ("ParenLeft", "("),
@@ -74,7 +74,7 @@ KIND = {name: kind for kind, (name, _) in enumerate(BASE_TOKENS)}
 
 SPELLED = {spelling: kind for kind, (_, spelling) in enumerate(BASE_TOKENS) if spelling is not None}
 
-# Value types: the Rust's ValueTypeKeyword, each with its spelling.
+# Value types: upstream's ValueTypeKeyword, each with its spelling.
 VALUE_TYPES = [
     ("NoKeyword", None),
     ("Void", "void"),
@@ -128,7 +128,7 @@ BINARY_OP, UNARY_OP, COMPARISON_OP, TYPE = "binary operator", "unary operator", 
 # The part that a load names. Any other part is the number of places that it stands back.
 LINKED = 9
 
-# Kinds of nodes: the Rust's ParseNode, each with what its load is and with its parts in their order.
+# Kinds of nodes: upstream's ParseNode, each with what its load is and with its parts in their order.
 PARSE_NODES = [
     ("NoMoreItems", NONE, ()),
     ("DeclarationFlags", FLAG_SUM, ()),
@@ -236,5 +236,15 @@ REFUSALS = {
 PROGRAM_TOKENS = 4096
 PROGRAM_SLOTS = 8197
 
-# The entries of the program.
-EXPRESSION, VALUE_TYPE_ENTRY = 0, 1
+# The entries by their numbers. The program penne-nodes has the first two.
+ENTRIES = ["expression", "type", "constant", "struct", "word"]
+PROGRAM_ENTRIES = (0, 1)
+
+# The functions of the library for C, one for each entry.
+FUNCTIONS = [
+    "penne_parse_expression",
+    "penne_parse_type",
+    "penne_parse_constant_declaration",
+    "penne_parse_struct_declaration",
+    "penne_parse_word_declaration",
+]

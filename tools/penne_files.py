@@ -7,7 +7,7 @@ import penne_codes as codes
 import penne_row
 import penne_tree
 
-HEADER = 12
+HEADER = penne_row.SIZES
 LIMIT = 1 << 32
 
 # Rows that are accepted or refused, as an expression or as a type.

@@ -1,7 +1,9 @@
 """A line of Penne tokens, read as penne's lexer reads it, and written as the input of the program penne-nodes.
 
-Besides Penne's own spelling a token can be written by its name in the Rust's BaseToken: `Identifier`, `Plus`. The two
-kinds with a value type can have it after a colon, without spaces: `SuffixedInteger:i32`, `ValueTypeKeyword:bool`.
+Besides Penne's own spelling a token can be written by the name of its kind: `Identifier`, `Plus`. The two kinds with a
+value type can have it after a colon, without spaces: `SuffixedInteger:i32`, `ValueTypeKeyword:bool`. An identifier
+that is called as a kind is has a backslash before it: `\\Plus`. `#62` is a token of the kind 62, and `#52:15` has the
+value type 15 too, whether or not there are such. `200×(` is 200 times `(`.
 """
 
 import collections
@@ -21,6 +23,9 @@ ESCAPE = rb"\\(?:[nrt\\'\"0]|x[0-9A-Fa-f]{2})"
 UNICODE = rb"\\u\{([0-9A-Fa-f]{1,6})\}"
 CHAR = re.compile(rb"'(?:" + ESCAPE + rb"|[^\x00-\x1f\x7f'\\])'")
 STRING = re.compile(rb'"(?:' + ESCAPE + rb"|" + UNICODE + rb'|[^\x00-\x1f\x7f"\\])*"')
+ESCAPED = re.compile(rb"\\([A-Za-z_][A-Za-z0-9_]*)")
+BY_NUMBER = re.compile(rb"#(0|[1-9][0-9]{0,2})(?::(0|[1-9][0-9]{0,2}))?(?![A-Za-z0-9_])")
+TIMES = re.compile("([1-9][0-9]{0,4})×".encode())
 TYPE_AFTER_NAME = re.compile(rb":([A-Za-z][A-Za-z0-9]*)")
 SYMBOL = re.compile(rb"[<>|!.=-][<>=:.]|[^A-Za-z0-9_ \t\r\n]")
 
@@ -29,6 +34,9 @@ NO_STRING = "the string is not closed, or has a control character or an unknown 
 
 # The most digits of a decimal number of 128 bits.
 DECIMAL_DIGITS = 39
+
+# The bytes of the three sizes with which an input begins, and of the three numbers of a declaration after them.
+SIZES, DECLARED = 12, 12
 
 # The kinds that have a value type.
 TYPED = (codes.KIND["ValueTypeKeyword"], codes.KIND["SuffixedInteger"])
@@ -49,24 +57,54 @@ def tokens(line, end=True):
     found = []
     at = SPACE.match(line).end()
     while at < len(line):
+        times, at = _times(line, at)
         token, size = _token(line, at)
-        found.append(token)
+        found += times * [token]
         at = SPACE.match(line, at + size).end()
     if end:
         found.append(Token(codes.KIND["EndOfSource"], 0, "EndOfSource"))
     return found
 
 
-def program_input(row, cursor, entry):
-    """What penne-nodes reads: three sizes, the kinds, the value types."""
+def program_input(row, cursor, entry, declared=(0, 0, 0)):
+    """What penne-nodes reads: three sizes, the kinds, the value types. For the entries that it does not have there are
+    three numbers more after the sizes: where the declaration begins, its flags, and the kind of its declaring token."""
     kinds = bytes(token.kind for token in row)
     value_types = bytes(token.value_type for token in row)
-    return struct.pack("<III", len(row), cursor, entry) + kinds + value_types
+    more = () if entry in codes.PROGRAM_ENTRIES else declared
+    sizes = struct.pack(f"<{3 + len(more)}I", len(row), cursor, entry, *more)
+    return sizes + kinds + value_types
+
+
+def read_input(data):
+    """The entry, the row, the cursor and the numbers of a declaration in such an input, or None for a bad file."""
+    if len(data) < SIZES:
+        return None
+    count, cursor, entry = struct.unpack_from("<III", data)
+    begin = SIZES if entry in codes.PROGRAM_ENTRIES else SIZES + DECLARED
+    if entry >= len(codes.ENTRIES) or len(data) != begin + 2 * count:
+        return None
+    declared = (0, 0, 0) if begin == SIZES else struct.unpack_from("<III", data, SIZES)
+    if declared[2] > 255:
+        return None
+    kinds, value_types = data[begin : begin + count], data[begin + count :]
+    row = [Token(kind, value_type, "") for kind, value_type in zip(kinds, value_types)]
+    return entry, row, cursor, declared
+
+
+def _times(line, at):
+    """How often the next token comes, and where it is."""
+    match = TIMES.match(line, at)
+    if not match:
+        return 1, at
+    if match.end() == len(line):
+        raise Unreadable(line, at, f"no token follows `{match.group().decode()}`")
+    return int(match.group(1)), match.end()
 
 
 def _token(line, at):
     """The token at a place, and how many bytes it has."""
-    for pattern, read in ((WORD, _word), (NUMBER, _number)):
+    for pattern, read in ((ESCAPED, _escaped), (BY_NUMBER, _by_number), (WORD, _word), (NUMBER, _number)):
         match = pattern.match(line, at)
         if match:
             return read(line, at, match.group())
@@ -77,6 +115,19 @@ def _token(line, at):
 
 def _made(kind, value_type, text):
     return Token(kind, value_type, text.decode("utf-8", "replace")), len(text)
+
+
+def _escaped(line, at, word):
+    """An identifier after a backslash, whatever its name is otherwise."""
+    return Token(codes.KIND["Identifier"], 0, word[1:].decode()), len(word)
+
+
+def _by_number(line, at, word):
+    """A token by the numbers of its kind and value type."""
+    kind, value_type = (int(number or 0) for number in BY_NUMBER.match(line, at).groups())
+    if max(kind, value_type) > 255:
+        raise Unreadable(line, at, f"`{word.decode()}` has a number above 255")
+    return _made(kind, value_type, word)
 
 
 def _word(line, at, word):

@@ -11,6 +11,9 @@ OK_LINE = re.compile("ok" + 3 * NUMBER)
 NO_LINE = re.compile("no" + 5 * NUMBER)
 NODE_LINE = re.compile((3 * NUMBER)[1:])
 
+# So many tokens that were not read are shown.
+SHOWN = 8
+
 NAMES = {codes.BINARY_OP: codes.BINARY_OPS, codes.UNARY_OP: codes.UNARY_OPS, codes.COMPARISON_OP: codes.COMPARISON_OPS}
 
 
@@ -68,18 +71,32 @@ def picture(output, row=None):
     """The lines that show the output; a row of tokens lends its text."""
     if output.root is None:
         return _refusal(output, row)
-    count = "1 node" if output.count == 1 else f"{output.count} nodes"
-    return [f"Accepted: root {output.root}, cursor {output.cursor}, {count}."] + drawn(output, row)
+    first = f"Accepted: root {output.root}, cursor {output.cursor}, {_nodes(output.count)}."
+    return [first, *_not_read(output, row), *drawn(output, row)]
+
+
+def _nodes(count):
+    return "1 node" if count == 1 else f"{count} nodes"
+
+
+def _not_read(output, row):
+    """Which tokens of the row an accepted parse has left before EndOfSource, if it has left some."""
+    rest = [] if row is None else row[output.cursor : -1]
+    if not rest:
+        return []
+    text = " ".join(token.text for token in rest[:SHOWN]) + (" .." if len(rest) > SHOWN else "")
+    last = output.cursor + len(rest) - 1
+    which = f"Token {last} was" if len(rest) == 1 else f"Tokens {output.cursor} to {last} were"
+    return [f"{which} not read: `{text}`."]
 
 
 def _refusal(output, row):
     sentence = codes.REFUSALS[output.number][1].format(start=output.start, end=output.end)
     found = _text(row, output.start) if "{start}" in codes.REFUSALS[output.number][1] else ""
-    count = "1 node" if output.count == 1 else f"{output.count} nodes"
     lines = [f"Refused with {output.number}. {sentence}"]
     if found:
         lines.append(f"Token {output.start} is{found}.")
-    lines.append(f"Cursor {output.cursor}, {count}.")
+    lines.append(f"Cursor {output.cursor}, {_nodes(output.count)}.")
     return lines + [label(output.nodes, place, row) for place in range(output.count)]
 
 

@@ -20,36 +20,15 @@ mod delta;
 
 mod buffer;
 mod guard;
+pub mod hexadecimal;
 mod nesting;
 mod node;
+mod reply;
 
 pub use buffer::{Buffer, WIDE};
 pub use guard::Cause;
 pub use nesting::nesting;
-
-/// What an entry answers. The meaning of the numbers is document 01's.
-#[derive(Debug, Clone, Copy, PartialEq, Eq)]
-pub enum Reply {
-    Accepted {
-        root: u32,
-        cursor: u32,
-        count: u32,
-    },
-    Refused {
-        number: u32,
-        start: u32,
-        end: u32,
-        cursor: u32,
-        count: u32,
-    },
-    /// The Rust panicked. Cursor and count are those it had then, and the
-    /// nodes up to the count can be read.
-    Panicked {
-        cause: Cause,
-        cursor: u32,
-        count: u32,
-    },
-}
+pub use reply::{Numbers, Reply};
 
 /// What the Rust cannot be asked: input that document 01 refuses with this
 /// number before parsing.
@@ -74,7 +53,7 @@ impl Row {
                 start: start as u32,
             })
         };
-        if kinds.len() != value_types.len() || kinds.is_empty() || kinds.len() > 65_535 {
+        if kinds.len() != value_types.len() || kinds.is_empty() || kinds.len() > MOST_TOKENS {
             return unaskable(1, 0);
         }
         let mut tokens = kinds.iter().zip(value_types);
@@ -123,7 +102,7 @@ impl Row {
         if base > slots.unwrap_or(MOST_SLOTS) {
             return unaskable(32);
         }
-        if declares && flags > 31 {
+        if declares && u32::from(flags) > MOST_FLAGS {
             return unaskable(35);
         }
         // A kind from 0 to 61 other than 47 to 51 is asked: the Rust panics.
@@ -142,8 +121,12 @@ impl Row {
     }
 }
 
-/// The most slots that document 01 allows.
+/// The most tokens and slots that document 01 allows, all flags together, and
+/// the expressions and inner types that may be open at once.
+pub const MOST_TOKENS: usize = 65_535;
 pub const MOST_SLOTS: u32 = 131_075;
+pub const MOST_FLAGS: u32 = 31;
+pub const MOST_OPEN: u32 = 200;
 
 /// An entry with all that it is given besides the row.
 #[derive(Debug, Clone, Copy, PartialEq, Eq)]

@@ -3,7 +3,7 @@
 
 use std::io::{self, BufRead, Write};
 
-use oracle::{Buffer, Cause, Entry, Question, Reply, Row, Unaskable};
+use oracle::{Buffer, Entry, Question, Reply, Row, Unaskable, hexadecimal};
 
 fn main() {
     let mut with_nesting = false;
@@ -58,14 +58,8 @@ fn read_case(case: &str) -> Option<(Question, Vec<u8>, Vec<u8>)> {
     let flags = fields.next()?.parse().ok()?;
     let start = fields.next()?.parse().ok()?;
     let word_kind = fields.next()?.parse().ok()?;
-    let kinds = match fields.next()? {
-        "-" => Vec::new(),
-        hex => bytes(hex)?,
-    };
-    let value_types = match fields.next()? {
-        "-" => vec![0; kinds.len()],
-        hex => bytes(hex)?,
-    };
+    let kinds = hexadecimal::read(fields.next()?)?;
+    let value_types = hexadecimal::read_types(fields.next()?, &kinds)?;
     let slots = match fields.next() {
         Some(slots) => Some(slots.parse().ok()?),
         None => None,
@@ -85,17 +79,6 @@ fn read_case(case: &str) -> Option<(Question, Vec<u8>, Vec<u8>)> {
     Some((question, kinds, value_types))
 }
 
-fn bytes(hex: &str) -> Option<Vec<u8>> {
-    let digit = |x: u8| (x as char).to_digit(16).map(|d| d as u8);
-    let pairs = hex.as_bytes().chunks_exact(2);
-    if !pairs.remainder().is_empty() {
-        return None;
-    }
-    pairs
-        .map(|pair| Some(digit(pair[0])? << 4 | digit(pair[1])?))
-        .collect()
-}
-
 fn write_reply(
     output: &mut impl Write,
     question: &Question,
@@ -113,37 +96,10 @@ fn write_reply(
         buffer.base_is_unchanged(),
         "a node below the base has changed"
     );
-    match reply {
-        Reply::Accepted {
-            root,
-            cursor,
-            count,
-        } => {
-            write!(output, "ok {root} {cursor} {count}")?;
-            if with_nesting {
-                let nesting = oracle::nesting(question.entry, reply, buffer).expect("accepted");
-                write!(output, " nesting {nesting}")?;
-            }
-        }
-        Reply::Refused {
-            number,
-            start,
-            end,
-            cursor,
-            count,
-        } => write!(output, "no {number} {start} {end} {cursor} {count}")?,
-        Reply::Panicked {
-            cause,
-            cursor,
-            count,
-        } => {
-            let cause = match cause {
-                Cause::Slots => "slots",
-                Cause::Unreachable => "unreachable",
-                Cause::Other => "other",
-            };
-            write!(output, "panic {cause} {cursor} {count}")?;
-        }
+    write!(output, "{reply}")?;
+    if with_nesting && matches!(reply, Reply::Accepted { .. }) {
+        let nesting = oracle::nesting(question.entry, reply, buffer).expect("accepted");
+        write!(output, " nesting {nesting}")?;
     }
     write!(output, " :")?;
     for (kind, load) in buffer.appended() {

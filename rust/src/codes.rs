@@ -1,4 +1,35 @@
-//! Enums whose places are codes, as the Rust of Penne has them.
+//! Enums whose places are codes, as Penne's own parser has them.
+
+use core::fmt;
+
+/// A code is shown by its name, a value type as Penne spells it.
+macro_rules! shown {
+    (ValueTypeKeyword, $code:ident, $f:ident) => {
+        $f.write_str(SPELLED[*$code as usize])
+    };
+    ($name:ident, $code:ident, $f:ident) => {
+        fmt::Debug::fmt($code, $f)
+    };
+}
+
+/// The value types as Penne spells them.
+const SPELLED: [&str; 15] = [
+    "NoKeyword",
+    "void",
+    "i8",
+    "i16",
+    "i32",
+    "i64",
+    "i128",
+    "u8",
+    "u16",
+    "u32",
+    "u64",
+    "u128",
+    "usize",
+    "char8",
+    "bool",
+];
 
 /// An enum with a code for each name: its place.
 macro_rules! codes {
@@ -17,6 +48,12 @@ macro_rules! codes {
             /// The one with this code, if there is one.
             pub fn from_repr(code: u8) -> Option<$name> {
                 Self::ALL.get(usize::from(code)).copied()
+            }
+        }
+
+        impl fmt::Display for $name {
+            fn fmt(&self, f: &mut fmt::Formatter<'_>) -> fmt::Result {
+                shown!($name, self, f)
             }
         }
     };

@@ -1,7 +1,7 @@
 //! A set of declaration flags.
 
-use std::fmt;
-use std::ops::BitOr;
+use core::fmt;
+use core::ops::BitOr;
 
 use crate::DeclarationFlag;
 
@@ -79,5 +79,19 @@ impl FromIterator<DeclarationFlag> for DeclarationFlags {
 impl fmt::Debug for DeclarationFlags {
     fn fmt(&self, f: &mut fmt::Formatter<'_>) -> fmt::Result {
         f.debug_set().entries(self.iter()).finish()
+    }
+}
+
+/// The names of the flags with spaces between them, or `no flag`.
+impl fmt::Display for DeclarationFlags {
+    fn fmt(&self, f: &mut fmt::Formatter<'_>) -> fmt::Result {
+        if *self == DeclarationFlags::EMPTY {
+            return f.write_str("no flag");
+        }
+        for (place, flag) in self.iter().enumerate() {
+            let space = if place == 0 { "" } else { " " };
+            write!(f, "{space}{flag}")?;
+        }
+        Ok(())
     }
 }

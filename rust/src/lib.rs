@@ -31,40 +31,80 @@
 //! start from, and [`Slots`] for nodes: a `&mut` [`Nodes`], which owns its slots, or slices of
 //! one's own. Each gives [`Parsed`] or a [`Refusal`], whatever the input is.
 //!
+//! **An accepted parse need not have read the whole row.** `a & b | c` is accepted up to `b`, since
+//! after `&` only `&` can follow, and `1 2` up to `1`. Whoever wants the rest to be an error asks
+//! [`Parsed::is_at_end`].
+//!
+//! # Nodes
+//!
+//! [`NodesRef`] reads them: by number ([`get`](NodesRef::get)), by the parts of a node in their
+//! order ([`parts`](NodesRef::parts)) or by what they are ([`name`](NodesRef::name),
+//! [`items`](NodesRef::items), [`members`](NodesRef::members), [`operands`](NodesRef::operands),
+//! [`value`](NodesRef::value), [`value_type`](NodesRef::value_type)), all of them
+//! ([`iter`](NodesRef::iter)) or those of a tree ([`walk`](NodesRef::walk)), which can be drawn
+//! ([`draw`](NodesRef::draw)). docs/MANUAL.md of the repository says which nodes each construct has.
+//!
 //! # Memory
 //!
 //! An entry allocates nothing. It reads the row and writes the slots that it was lent, and has no
 //! buffer besides; nor does it keep anything from one call to the next. The stack that it uses is
-//! bounded, some 110 KB, since at most 200 expressions and inner types may be open at once. Only
-//! [`Tokens`] and [`Nodes`] allocate, when they are made or grow.
+//! bounded, since at most 200 expressions and inner types may be open at once: it is less than 88
+//! KiB. Only [`Tokens`], [`Nodes`], [`Walk`] and [`Drawing`] allocate.
+//!
+//! The package is `no_std`. Without the feature `alloc`, which is on by default, these four are not
+//! there, and rows and nodes are slices.
 
+#![no_std]
 #![deny(missing_docs)]
 #![deny(unsafe_code)]
 
+#[cfg(feature = "alloc")]
+extern crate alloc;
+
 /// The example of the README, so that it runs with the other examples.
-#[cfg(doctest)]
+#[cfg(all(doctest, feature = "alloc"))]
 #[doc = include_str!("../README.md")]
 struct Readme;
 
+#[cfg(feature = "alloc")]
+mod buffer;
 mod codes;
-#[allow(unsafe_code)]
-mod ffi;
 mod flags;
 mod ids;
+mod named;
 mod nodes;
 mod parse_node;
+pub mod raw;
 mod refusal;
 mod row;
+#[cfg(feature = "alloc")]
+mod tokens;
+#[cfg(feature = "alloc")]
+mod walk;
 
+#[cfg(feature = "alloc")]
+pub use buffer::Nodes;
 pub use codes::{BaseToken, BinaryOp, ComparisonOp, DeclarationFlag, UnaryOp, ValueTypeKeyword};
 pub use flags::DeclarationFlags;
 pub use ids::{NodeId, TokenId};
-pub use nodes::{Items, MAX_SLOTS, Nodes, NodesRef, Parts, Slots};
+pub use named::Items;
+pub use nodes::{MAX_SLOTS, NodesRef, Parts, Slots};
 pub use parse_node::ParseNode;
 pub use refusal::{Refusal, RefusalNumber};
-pub use row::{MAX_TOKENS, Row, Tokens};
+pub use row::{MAX_TOKENS, Row};
+#[cfg(feature = "alloc")]
+pub use tokens::Tokens;
+#[cfg(feature = "alloc")]
+pub use walk::{Drawing, Walk};
+
+use core::ops::Range;
+
+use raw::Entry;
 
 /// What an accepted parse gives.
+///
+/// The cursor says how far it has read, which need not be the whole row: see
+/// [`is_at_end`](Parsed::is_at_end).
 #[derive(Clone, Copy, Debug, PartialEq, Eq, Hash)]
 pub struct Parsed {
     /// The node that stands for what was read.
@@ -76,25 +116,84 @@ pub struct Parsed {
 }
 
 impl Parsed {
-    fn new(root: u32, cursor: u32, count: u32) -> Parsed {
-        Parsed {
-            root: NodeId(root),
-            cursor: TokenId(cursor),
-            count,
-        }
+    /// Whether the parse has read the row up to EndOfSource.
+    ///
+    /// ```
+    /// use penne_parser::BaseToken::{Ampersand, Identifier, Pipe};
+    /// use penne_parser::{parse_expression, Nodes, TokenId, Tokens};
+    ///
+    /// // a & b | c
+    /// let tokens = [Identifier, Ampersand, Identifier, Pipe, Identifier];
+    /// let tokens: Tokens = tokens.into_iter().collect();
+    /// let mut nodes = Nodes::with_slots(30);
+    /// let parsed = parse_expression(tokens.row(), TokenId(0), &mut nodes)?;
+    /// assert!(!parsed.is_at_end(tokens.row()));
+    /// assert_eq!(parsed.rest(tokens.row()), TokenId(3)..TokenId(5));
+    /// # Ok::<(), penne_parser::Refusal>(())
+    /// ```
+    pub fn is_at_end(&self, row: Row<'_>) -> bool {
+        usize::from(self.cursor) + 1 >= row.len()
     }
+
+    /// The tokens of the row that the parse has not read, EndOfSource left out.
+    pub fn rest(&self, row: Row<'_>) -> Range<TokenId> {
+        let end = u32::try_from(row.len().saturating_sub(1)).unwrap_or(u32::MAX);
+        self.cursor..TokenId(end.max(self.cursor.0))
+    }
+}
+
+/// Asks an entry, and sets the count of the slots to that of the reply.
+fn ask(
+    entry: Entry,
+    row: Row<'_>,
+    TokenId(cursor): TokenId,
+    slots: Slots<'_>,
+) -> Result<Parsed, Refusal> {
+    let Slots {
+        kinds,
+        loads,
+        count,
+    } = slots;
+    let mut reply = [0; raw::PLACES];
+    let lent = Slots {
+        kinds,
+        loads,
+        count: &mut *count,
+    };
+    let done = raw::parse(entry, row, cursor, lent, &mut reply);
+    assert!(done, "the reply has enough places");
+    let [case, a, b, c, d, e] = reply;
+    if case == raw::ACCEPTED {
+        *count = c;
+        return Ok(Parsed {
+            root: NodeId(a),
+            cursor: TokenId(b),
+            count: c,
+        });
+    }
+    *count = e;
+    let number = u8::try_from(a).ok().and_then(RefusalNumber::from_repr);
+    Err(Refusal {
+        number: number.expect("the library gives only numbers that are known"),
+        start: TokenId(b),
+        end: TokenId(c),
+        cursor: TokenId(d),
+        count: e,
+    })
 }
 
 /// Reads an expression from the cursor on.
 ///
 /// ```
-/// use penne_parser::{parse_expression, Nodes, ParseNode, Row, TokenId};
+/// use penne_parser::BaseToken::{Identifier, ParenLeft, ParenRight};
+/// use penne_parser::{parse_expression, Nodes, ParseNode, TokenId, Tokens};
 ///
 /// // f()
-/// let row = Row::new(&[53, 1, 2, 0], &[0; 4]);
+/// let tokens: Tokens = [Identifier, ParenLeft, ParenRight].into_iter().collect();
 /// let mut nodes = Nodes::with_slots(20);
-/// let parsed = parse_expression(row, TokenId(0), &mut nodes)?;
+/// let parsed = parse_expression(tokens.row(), TokenId(0), &mut nodes)?;
 /// assert_eq!(nodes.get(parsed.root), Some(ParseNode::FunctionCall { is_builtin: false }));
+/// assert_eq!(nodes.view().name(parsed.root), Some(TokenId(0)));
 /// # Ok::<(), penne_parser::Refusal>(())
 /// ```
 pub fn parse_expression<'n>(
@@ -102,7 +201,7 @@ pub fn parse_expression<'n>(
     cursor: TokenId,
     nodes: impl Into<Slots<'n>>,
 ) -> Result<Parsed, Refusal> {
-    ffi::expression(row, cursor, nodes.into())
+    ask(Entry::Expression, row, cursor, nodes.into())
 }
 
 /// Reads a type from the cursor on.
@@ -124,26 +223,32 @@ pub fn parse_type<'n>(
     cursor: TokenId,
     nodes: impl Into<Slots<'n>>,
 ) -> Result<Parsed, Refusal> {
-    ffi::value_type(row, cursor, nodes.into())
+    ask(Entry::Type, row, cursor, nodes.into())
 }
 
 /// Reads a constant from its name on. The caller has taken `const` and what stands before it; the
 /// declaration began at the token `start_of_declaration`.
 ///
 /// ```
+/// use penne_parser::BaseToken::{Assignment, BoolLiteral, Colon, Const, Identifier, Pub, Semicolon};
 /// use penne_parser::{
-///     parse_constant_declaration, DeclarationFlag, Nodes, ParseNode, Row, TokenId,
+///     parse_constant_declaration, BaseToken, DeclarationFlag, Nodes, ParseNode, TokenId, Tokens,
+///     ValueTypeKeyword,
 /// };
 ///
 /// // pub const C: bool = true;
-/// let row = Row::new(&[44, 35, 53, 19, 52, 23, 59, 20, 0], &[0, 0, 0, 0, 14, 0, 0, 0, 0]);
-/// let flags = DeclarationFlag::Public.into();
+/// let mut tokens: Tokens = [Pub, Const, Identifier, Colon].into_iter().collect();
+/// tokens.push_typed(BaseToken::ValueTypeKeyword, ValueTypeKeyword::Bool);
+/// tokens.extend([Assignment, BoolLiteral, Semicolon]);
+///
+/// let (cursor, start, flags) = (TokenId(2), TokenId(0), DeclarationFlag::Public.into());
 /// let mut nodes = Nodes::with_slots(20);
-/// let parsed = parse_constant_declaration(row, TokenId(2), &mut nodes, TokenId(0), flags)?;
-/// let declaration = ParseNode::ConstantDeclaration { start_of_declaration: TokenId(0) };
-/// assert_eq!(nodes.get(parsed.root), Some(declaration));
-/// let first_part = nodes.parts(parsed.root).next().unwrap();
-/// assert_eq!(nodes.get(first_part), Some(ParseNode::DeclarationFlags(flags)));
+/// let constant = parse_constant_declaration(tokens.row(), cursor, &mut nodes, start, flags)?.root;
+/// let nodes = nodes.view();
+/// assert_eq!(nodes.flags(constant), Some(flags));
+/// assert_eq!(nodes.name(constant), Some(TokenId(2)));
+/// let value = nodes.value(constant).and_then(|value| nodes.get(value));
+/// assert_eq!(value, Some(ParseNode::BooleanLiteral { literal: TokenId(6) }));
 /// # Ok::<(), penne_parser::Refusal>(())
 /// ```
 pub fn parse_constant_declaration<'n>(
@@ -153,8 +258,11 @@ pub fn parse_constant_declaration<'n>(
     start_of_declaration: TokenId,
     flags: DeclarationFlags,
 ) -> Result<Parsed, Refusal> {
-    let start = start_of_declaration.0;
-    ffi::constant(row, cursor, nodes.into(), start, flags.bits())
+    let entry = Entry::Constant {
+        start: start_of_declaration.0,
+        flags: flags.bits(),
+    };
+    ask(entry, row, cursor, nodes.into())
 }
 
 /// Reads a struct from its name on. The caller has taken `struct` and what stands before it; the
@@ -162,18 +270,19 @@ pub fn parse_constant_declaration<'n>(
 /// the flag OpaqueStruct.
 ///
 /// ```
+/// use penne_parser::BaseToken::{Identifier, Semicolon, Struct};
 /// use penne_parser::{
-///     parse_struct_declaration, DeclarationFlag, DeclarationFlags, Nodes, ParseNode, Row, TokenId,
+///     parse_struct_declaration, DeclarationFlag, DeclarationFlags, Nodes, TokenId, Tokens,
 /// };
 ///
 /// // struct S;
-/// let row = Row::new(&[46, 53, 20, 0], &[0; 4]);
+/// let tokens: Tokens = [Struct, Identifier, Semicolon].into_iter().collect();
+/// let (cursor, start, flags) = (TokenId(1), TokenId(0), DeclarationFlags::EMPTY);
 /// let mut nodes = Nodes::with_slots(10);
-/// let no_flags = DeclarationFlags::EMPTY;
-/// let parsed = parse_struct_declaration(row, TokenId(1), &mut nodes, TokenId(0), no_flags)?;
-/// let flags = nodes.parts(parsed.root).next().unwrap();
-/// let opaque = ParseNode::DeclarationFlags(DeclarationFlag::OpaqueStruct.into());
-/// assert_eq!(nodes.get(flags), Some(opaque));
+/// let parsed = parse_struct_declaration(tokens.row(), cursor, &mut nodes, start, flags)?;
+/// let opaque = DeclarationFlag::OpaqueStruct.into();
+/// assert_eq!(nodes.view().flags(parsed.root), Some(opaque));
+/// assert_eq!(nodes.view().members(parsed.root).count(), 0);
 /// # Ok::<(), penne_parser::Refusal>(())
 /// ```
 pub fn parse_struct_declaration<'n>(
@@ -183,8 +292,11 @@ pub fn parse_struct_declaration<'n>(
     start_of_declaration: TokenId,
     flags: DeclarationFlags,
 ) -> Result<Parsed, Refusal> {
-    let start = start_of_declaration.0;
-    ffi::structure(row, cursor, nodes.into(), start, flags.bits())
+    let entry = Entry::Struct {
+        start: start_of_declaration.0,
+        flags: flags.bits(),
+    };
+    ask(entry, row, cursor, nodes.into())
 }
 
 /// Reads a word from its name on. The caller has taken the declaring token, Word8 to Word128, which
@@ -192,18 +304,23 @@ pub fn parse_struct_declaration<'n>(
 /// `start_of_declaration`.
 ///
 /// ```
+/// use penne_parser::BaseToken::{BraceLeft, BraceRight, Colon, Comma, Identifier, Word32};
 /// use penne_parser::{
-///     parse_word_declaration, BaseToken, DeclarationFlags, Nodes, ParseNode, Row, TokenId,
+///     parse_word_declaration, BaseToken, DeclarationFlags, Nodes, TokenId, Tokens, ValueTypeKeyword,
 /// };
 ///
 /// // word32 W { a: u32, }
-/// let row = Row::new(&[49, 53, 3, 53, 19, 52, 22, 4, 0], &[0, 0, 0, 0, 0, 9, 0, 0, 0]);
+/// let mut tokens: Tokens =
+///     [Word32, Identifier, BraceLeft, Identifier, Colon].into_iter().collect();
+/// tokens.push_typed(BaseToken::ValueTypeKeyword, ValueTypeKeyword::Uint32);
+/// tokens.extend([Comma, BraceRight]);
+///
+/// let (cursor, start, flags) = (TokenId(1), TokenId(0), DeclarationFlags::EMPTY);
 /// let mut nodes = Nodes::with_slots(20);
-/// let (word, flags) = (BaseToken::Word32, DeclarationFlags::EMPTY);
-/// let parsed = parse_word_declaration(row, TokenId(1), &mut nodes, TokenId(0), flags, word)?;
-/// let structural_type = nodes.parts(parsed.root).nth(2).unwrap();
-/// let size = ParseNode::StructuralType { size_in_bytes_if_word: Some(4) };
-/// assert_eq!(nodes.get(structural_type), Some(size));
+/// let word = parse_word_declaration(tokens.row(), cursor, &mut nodes, start, flags, Word32)?.root;
+/// let nodes = nodes.view();
+/// assert_eq!(nodes.word_size(word), Some(4));
+/// assert!(nodes.members(word).map(|member| nodes.name(member)).eq([Some(TokenId(3))]));
 /// # Ok::<(), penne_parser::Refusal>(())
 /// ```
 pub fn parse_word_declaration<'n>(
@@ -214,7 +331,10 @@ pub fn parse_word_declaration<'n>(
     flags: DeclarationFlags,
     declaring_token: BaseToken,
 ) -> Result<Parsed, Refusal> {
-    let start = start_of_declaration.0;
-    let word = declaring_token as u8;
-    ffi::word(row, cursor, nodes.into(), start, flags.bits(), word)
+    let entry = Entry::Word {
+        start: start_of_declaration.0,
+        flags: flags.bits(),
+        declaring_token: declaring_token as u8,
+    };
+    ask(entry, row, cursor, nodes.into())
 }

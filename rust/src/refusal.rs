@@ -1,8 +1,8 @@
 //! Refusals.
 
-use std::error::Error;
-use std::fmt;
-use std::ops::Range;
+use core::error::Error;
+use core::fmt;
+use core::ops::Range;
 
 use crate::TokenId;
 

@@ -6,7 +6,7 @@ use std::path::Path;
 
 use penne_parser::{
     BaseToken, BinaryOp, ComparisonOp, DeclarationFlag, DeclarationFlags, MAX_SLOTS, MAX_TOKENS,
-    NodeId, NodesRef, ParseNode, Refusal, RefusalNumber, TokenId, UnaryOp, ValueTypeKeyword,
+    NodeId, NodesRef, ParseNode, Refusal, RefusalNumber, TokenId, UnaryOp, ValueTypeKeyword, raw,
 };
 
 fn read(path: &str) -> String {
@@ -171,6 +171,26 @@ fn parts_of_nodes() {
         assert_eq!(nodes.parts(NodeId(10)).len(), parts.len());
         assert_eq!(nodes.parts(NodeId(10)).collect::<Vec<_>>(), parts, "{line}");
         assert_eq!(nodes.parts(NodeId(11)).count(), 0);
+    }
+}
+
+/// The library's function gives the table, and 0 outside of it.
+#[test]
+fn codes_of_parts() {
+    assert_eq!(
+        constants("part_code"),
+        [("Linked".to_string(), u32::from(raw::LINKED))]
+    );
+    let header = read("include/penne.h");
+    assert!(header.contains(&format!("#define PENNE_PART_LINKED {}\n", raw::LINKED)));
+    assert!(header.contains(&format!("#define PENNE_MAX_PARTS {}\n", raw::MAX_PARTS)));
+    for kind in 0..=255 {
+        for which in 0..=255 {
+            let code = raw::part(kind, which);
+            assert!(code == 0 || kind < 64 && which < raw::MAX_PARTS);
+            // The parts of a kind come without a gap.
+            assert!(code == 0 || which == 0 || raw::part(kind, which - 1) != 0);
+        }
     }
 }
 

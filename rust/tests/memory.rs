@@ -3,7 +3,9 @@
 use std::alloc::{GlobalAlloc, Layout, System};
 use std::cell::Cell;
 use std::process::Command;
-use std::thread;
+
+#[path = "../../tools/bencher/src/stack.rs"]
+mod stack;
 
 use penne_parser::{
     BaseToken, DeclarationFlags, Nodes, Parsed, Refusal, RefusalNumber, Row, TokenId, Tokens,
@@ -107,6 +109,7 @@ fn the_library_needs_nothing_from_outside() {
     };
     assert_eq!(defined.lines().find(writable), None);
     assert_eq!(defined.matches(" T penne_parse_").count(), 5);
+    assert_eq!(defined.matches(" T penne_part\n").count(), 1);
 }
 
 /// A row with 300 times these kinds.
@@ -116,11 +119,11 @@ fn deep_row(level: &[u8]) -> Tokens {
     kinds.repeat(300).into_iter().collect()
 }
 
-/// The deepest rows fit in a small stack: tokens that open a level, and what stands inside all of
-/// them.
+/// The deepest rows fit in the stack that the documentation names: tokens that open a level, and
+/// what stands inside all of them.
 #[test]
 fn the_stack_is_bounded() {
-    const SMALL: usize = 128 * 1024;
+    const BOUND: usize = 88 * 1024;
     let levels: [&[u8]; 7] = [
         &[1],
         &[5],
@@ -130,18 +133,37 @@ fn the_stack_is_bounded() {
         &[10, 53, 32],
         &[55, 14, 55, 16, 41, 15, 1],
     ];
-    let deep = move || {
-        let nodes = &mut Nodes::with_slots(20_000);
-        for level in levels {
-            let refusal = parse_expression(deep_row(level).row(), TokenId(0), &mut *nodes);
+    let nodes = &mut Nodes::with_slots(20_000);
+    let mut most = 0;
+    for level in levels {
+        let tokens = deep_row(level);
+        let used = stack::used(|| {
+            let refusal = parse_expression(tokens.row(), TokenId(0), &mut *nodes);
             let number = refusal.map_err(|refusal| refusal.number);
             assert_eq!(number, Err(RefusalNumber::NestingExceeded), "{level:?}");
-            nodes.clear();
-        }
-        let refusal = parse_type(deep_row(&[10]).row(), TokenId(0), &mut *nodes);
+        });
+        nodes.clear();
+        most = most.max(used);
+    }
+    let tokens = deep_row(&[10]);
+    let used = stack::used(|| {
+        let refusal = parse_type(tokens.row(), TokenId(0), &mut *nodes);
         let number = refusal.map_err(|refusal| refusal.number);
         assert_eq!(number, Err(RefusalNumber::NestingExceeded));
-    };
-    let thread = thread::Builder::new().stack_size(SMALL).spawn(deep);
-    thread.expect("a thread").join().expect("no other refusal");
+    });
+    most = most.max(used);
+    assert!(most < BOUND, "{most}");
+    // The measure measures.
+    assert!(most > 80_000, "{most}");
+    for (file, words) in [
+        ("src/lib.rs", "it is less than 88\n//! KiB"),
+        ("README.md", "less than 88 KiB"),
+        ("../include/penne.h", "less than 88 KiB of stack"),
+        ("../docs/MANUAL.md", "less than 88 KiB"),
+        ("../docs/PERFORMANCE.md", "less than 88 KiB"),
+    ] {
+        let path = std::path::Path::new(env!("CARGO_MANIFEST_DIR")).join(file);
+        let text = std::fs::read_to_string(path).expect(file);
+        assert!(text.contains(words), "{file}");
+    }
 }

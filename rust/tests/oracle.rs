@@ -1,11 +1,11 @@
-//! Replies and nodes beside those of the Rust, which the oracle runs in this process.
+//! Replies and nodes beside those of Penne's own parser, which the oracle runs in this process.
 
 mod common;
 
 use std::collections::BTreeMap;
 
-use common::{Random, Writer};
-use oracle::{Buffer, Cause, Entry, Question, Reply};
+use common::{Writer, random, write_row};
+use oracle::{Buffer, Entry, Question, Reply};
 use penne_parser::{
     BaseToken, DeclarationFlags, Nodes, Parsed, Refusal, RefusalNumber, Row, Slots, TokenId,
     parse_constant_declaration, parse_expression, parse_struct_declaration, parse_type,
@@ -15,22 +15,21 @@ use penne_parser::{
 /// The slots below the given count and above the replied one hold these.
 const MARK: (u8, u32) = (13, 77);
 
-/// How many expressions and inner types may be open at once.
-const NESTING: u32 = 200;
-
-/// A reply as numbers: Ok for root, cursor and count, Err for the five numbers of a refusal.
-type Numbers = Result<[u32; 3], [u32; 5]>;
-
-fn numbers(reply: Result<Parsed, Refusal>) -> Numbers {
+/// A reply as the oracle has it.
+fn replied(reply: Result<Parsed, Refusal>) -> Reply {
     match reply {
-        Ok(parsed) => Ok([parsed.root.0, parsed.cursor.0, parsed.count]),
-        Err(refusal) => Err([
-            refusal.number as u32,
-            refusal.start.0,
-            refusal.end.0,
-            refusal.cursor.0,
-            refusal.count,
-        ]),
+        Ok(parsed) => Reply::Accepted {
+            root: parsed.root.0,
+            cursor: parsed.cursor.0,
+            count: parsed.count,
+        },
+        Err(refusal) => Reply::Refused {
+            number: refusal.number as u32,
+            start: refusal.start.0,
+            end: refusal.end.0,
+            cursor: refusal.cursor.0,
+            count: refusal.count,
+        },
     }
 }
 
@@ -52,41 +51,23 @@ fn ask<'n>(
     }
 }
 
-/// The oracle's reply in document 01's numbers, which decide where the Rust panics or nests too
-/// deep. None where the nesting exceeds the limit, since the Rust has none and so does not say
-/// where.
-fn expected(question: &Question, reply: Reply, buffer: &Buffer) -> Option<Numbers> {
-    Some(match reply {
-        Reply::Accepted {
-            root,
-            cursor,
-            count,
-        } => {
-            let nesting = oracle::nesting(question.entry, reply, buffer).expect("a nesting");
-            if nesting > NESTING {
-                return None;
-            }
-            Ok([root, cursor, count])
-        }
-        Reply::Refused {
-            number,
-            start,
-            end,
-            cursor,
-            count,
-        } => Err([number, start, end, cursor, count]),
-        Reply::Panicked {
-            cause: Cause::Slots,
-            cursor,
-            count,
-        } => Err([33, cursor, cursor, cursor, count]),
-        Reply::Panicked { .. }
-            if question.entry == Entry::Word && !(47..=51).contains(&question.word_kind) =>
-        {
-            Err([36, 0, 0, question.cursor, question.base])
-        }
-        Reply::Panicked { cursor, count, .. } => Err([25, cursor - 1, cursor - 1, cursor, count]),
-    })
+/// The oracle's reply in document 01's numbers, which decide where upstream's parser panics. None
+/// where the nesting exceeds the limit, since that parser has none and so does not say where.
+fn expected(question: &Question, reply: Reply, buffer: &Buffer) -> Option<Reply> {
+    if let Reply::Accepted { .. } = reply {
+        let nesting = oracle::nesting(question.entry, reply, buffer).expect("a nesting");
+        return (nesting <= oracle::MOST_OPEN).then_some(reply);
+    }
+    if question.entry == Entry::Word && !(47..=51).contains(&question.word_kind) {
+        return Some(Reply::Refused {
+            number: 36,
+            start: 0,
+            end: 0,
+            cursor: question.cursor,
+            count: question.base,
+        });
+    }
+    reply.in_document_01()
 }
 
 /// Both parsers, with room for nodes that is used again.
@@ -121,7 +102,7 @@ impl Beside {
         let expected = expected(question, reply, &self.buffer);
         let slots = slots as usize;
         let mut count = question.base;
-        let ours = numbers(ask(
+        let ours = replied(ask(
             row,
             question,
             Slots {
@@ -130,20 +111,22 @@ impl Beside {
                 count: &mut count,
             },
         ));
-        let number = ours.map_or_else(|refusal| refusal[0], |_| 0);
-        *self.met.entry((question.entry as u8, number)).or_default() += 1;
+        *self
+            .met
+            .entry((question.entry as u8, ours.number()))
+            .or_default() += 1;
         let case = || format!("{:?} {question:?}", &row.kinds[..row.len().min(400)]);
         match expected {
             Some(expected) => {
                 assert_eq!(ours, expected, "{}", case());
                 assert!(self.nodes_agree(question.base, count), "{}", case());
             }
-            None => assert_eq!(number, 34, "{}", case()),
+            None => assert_eq!(ours.number(), 34, "{}", case()),
         }
         self.mark_again(question.base, count);
     }
 
-    /// Whether the appended nodes are the Rust's, and the slots before and after them as they were.
+    /// Whether the appended nodes are the oracle's, and the slots before and after them as they were.
     fn nodes_agree(&self, base: u32, count: u32) -> bool {
         let (base, count) = (base as usize, count as usize);
         let node = |place: usize| (self.kinds[place], self.loads[place]);
@@ -164,8 +147,7 @@ impl Beside {
 /// every tenth few slots.
 fn random_case(writer: &mut Writer, case: usize, entry: Entry) -> (Vec<u8>, Question) {
     let special = case % 2 == 1;
-    writer.kinds.clear();
-    writer.row(entry);
+    write_row(writer, entry);
     let random = &mut writer.random;
     let cursor = if special { random.below(4) } else { 0 };
     let before = (0..cursor).map(|_| random.below(62) as u8);
@@ -199,10 +181,7 @@ fn random_rows() {
     };
     oracle::with_large_stack(|| {
         let mut beside = Beside::new();
-        let mut writer = Writer {
-            random: Random(1),
-            kinds: Vec::new(),
-        };
+        let mut writer = Writer::new(random(1));
         for case in 0..cases {
             let (kinds, question) = random_case(&mut writer, case, Entry::ALL[case % 5]);
             let types = kinds.iter().map(|_| writer.random.below(15) as u8);
@@ -224,7 +203,7 @@ fn random_rows() {
 fn rows_of_random_kinds() {
     oracle::with_large_stack(|| {
         let mut beside = Beside::new();
-        let mut random = Random(2);
+        let mut random = random(2);
         for case in 0..30_000 {
             let size = random.below(12);
             let kinds: Vec<u8> = (0..size).map(|_| random.below(62) as u8).collect();
@@ -274,10 +253,7 @@ fn rows_at_the_limits() {
 /// Five slots a token are enough, as `Nodes::reserve_for` has it.
 #[test]
 fn reserved_slots_are_enough() {
-    let mut writer = Writer {
-        random: Random(3),
-        kinds: Vec::new(),
-    };
+    let mut writer = Writer::new(random(3));
     for case in 0..30_000 {
         let (kinds, question) = random_case(&mut writer, 0, Entry::ALL[case % 5]);
         let types = vec![0; kinds.len()];

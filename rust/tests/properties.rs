@@ -2,7 +2,7 @@
 
 mod common;
 
-use common::{Random, Writer};
+use common::{Random, Writer, random, write_row};
 use oracle::Entry;
 use penne_parser::{
     BaseToken, DeclarationFlags, NodeId, Nodes, ParseNode, Parsed, Refusal, RefusalNumber, Row,
@@ -118,7 +118,7 @@ fn bytes(random: &mut Random, size: usize, most: usize) -> Vec<u8> {
 
 #[test]
 fn any_input_gets_a_reply() {
-    let random = &mut Random(4);
+    let random = &mut random(4);
     let mut at_once = 0;
     for case in 0..100_000 {
         let mut input = Input::random(random);
@@ -156,16 +156,12 @@ fn met(nodes: &Nodes, root: NodeId) -> Vec<u32> {
 
 #[test]
 fn accepted_nodes_are_a_tree() {
-    let mut writer = Writer {
-        random: Random(5),
-        kinds: Vec::new(),
-    };
+    let mut writer = Writer::new(random(5));
     let nodes = &mut Nodes::new();
     let mut accepted = [0; 5];
     for case in 0..50_000 {
         let entry = Entry::ALL[case % 5];
-        writer.kinds.clear();
-        writer.row(entry);
+        write_row(&mut writer, entry);
         writer.kinds.push(0);
         let types = vec![4; writer.kinds.len()];
         let row = Row::new(&writer.kinds, &types);

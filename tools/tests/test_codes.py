@@ -19,6 +19,14 @@ def constants(name):
     return [(constant, int(number)) for constant, number in found]
 
 
+def parts_table():
+    """The names of the nodes with their parts, by the table PARTS."""
+    table = re.search(r"const PARTS: .*?\n\];", source("lib.rt"), re.DOTALL).group()
+    rows = re.findall(r"^    \[(.*?)\], // (\w+)$", table, re.MULTILINE)
+    read = lambda row: tuple(codes.LINKED if part == "Part::Linked" else int(part) for part in row.split(", "))
+    return [(name, tuple(part for part in read(row) if part)) for row, name in rows]
+
+
 def numbered(names):
     return [(name, number) for number, name in enumerate(names)]
 
@@ -45,15 +53,21 @@ class Codes(unittest.TestCase):
         refusals = [(name, number) for number, (name, _) in codes.REFUSALS.items()]
         self.assertEqual(constants("refusal_number.rt"), refusals)
 
+    def test_the_specifications_have_the_same(self):
+        """Names and numbers of crates/rules/specs/Codes, which has one number more that no reply has."""
+        folder = os.path.join(ROOT, "crates/rules/specs/Codes")
+        for file in sorted(os.listdir(folder)):
+            name = re.sub(r"(?<=[a-z])(?=[A-Z])", "_", file.removesuffix(".antt")).lower()
+            with open(os.path.join(folder, file), encoding="utf-8") as specification:
+                found = re.findall(r"^(\w+) = (\d+)$", specification.read(), re.MULTILINE)
+            found = [(constant, int(number)) for constant, number in found if constant != "OutOfRounds"]
+            self.assertEqual(found, constants({"refusal": "refusal_number"}.get(name, name) + ".rt"), file)
+
     def test_linked(self):
         self.assertEqual(constants("part_code.rt"), [("Linked", codes.LINKED)])
 
     def test_parts(self):
-        table = re.search(r"const PARTS: .*?\n\];", source("lib.rt"), re.DOTALL).group()
-        rows = re.findall(r"^    \[(.*?)\], // (\w+)$", table, re.MULTILINE)
-        read = lambda row: tuple(codes.LINKED if part == "Part::Linked" else int(part) for part in row.split(", "))
-        found = [(name, tuple(part for part in read(row) if part)) for row, name in rows]
-        self.assertEqual(found, [(name, parts) for name, _, parts in codes.PARSE_NODES])
+        self.assertEqual(parts_table(), [(name, parts) for name, _, parts in codes.PARSE_NODES])
 
     def test_only_a_linked_part_reads_a_node(self):
         for name, load, parts in codes.PARSE_NODES:

@@ -59,6 +59,18 @@ class Spelling(unittest.TestCase):
         self.assertEqual(read("SuffixedInteger ValueTypeKeyword"), "SuffixedInteger ValueTypeKeyword")
         self.assertEqual(read("Identifier:i32"), "Identifier Colon ValueTypeKeyword/Int32")
 
+    def test_identifiers_with_the_name_of_a_kind(self):
+        self.assertEqual(read(r"\Plus \Identifier:i32"), "Identifier Identifier Colon ValueTypeKeyword/Int32")
+        self.assertEqual(penne_row.tokens(rb"\Plus")[0].text, "Plus")
+
+    def test_tokens_by_number(self):
+        tokens = penne_row.tokens(b"#62 #52:15 #0", end=False)
+        self.assertEqual([token[:2] for token in tokens], [(62, 0), (52, 15), (0, 0)])
+
+    def test_repeated_tokens(self):
+        self.assertEqual(read("2×( 1 2×)"), "ParenLeft ParenLeft NakedDecimal ParenRight ParenRight")
+        self.assertEqual(read("3×12u8"), " ".join(3 * ["SuffixedInteger/Uint8"]))
+
     def test_integers(self):
         self.assertEqual(read("0 1_000"), "NakedDecimal NakedDecimal")
         self.assertEqual(read("0xFF 0b1_0"), "BitInteger BitInteger")
@@ -106,8 +118,19 @@ class Script(unittest.TestCase):
         self.assertEqual(run("--no-end", "").stdout, bytes(12))
 
     def test_a_line_that_begins_with_a_minus(self):
-        self.assertEqual(run("--", "-a").stdout, run(line=b"-a").stdout)
-        self.assertEqual(run("-1").stdout, run(line=b"-1").stdout)
+        for line in ("-a", "-1", "-a + 1"):
+            for words in (["--", line], [line], ["--row", line], [f"--row={line}"]):
+                self.assertEqual(run(*words).stdout, run(line=line.encode()).stdout)
+        self.assertEqual(run("--", "--a").stdout, run(line=b"--a").stdout)
+        self.assertEqual(run("-a", "--type").stdout, run("--type", line=b"-a").stdout)
+
+    def test_unknown_options_and_two_lines(self):
+        self.assertIn("unrecognized arguments: --tpye", run("--tpye", "1").stderr.decode())
+        self.assertIn("two lines of tokens, `1` and `-a`", run("1", "-a").stderr.decode())
+
+    def test_declarations(self):
+        result = run("--entry", "word", "--start", "1", "--flags", "3", "--word", "word32", "--no-end", "W")
+        self.assertEqual(result.stdout.hex(), "010000000000000004000000" "010000000300000031000000" "35" "00")
 
     def test_what_cannot_be_read(self):
         for line, why in (
@@ -118,6 +141,8 @@ class Script(unittest.TestCase):
             ("12bool", "line 1, character 1: `12bool` does not end in an integer type"),
             ("00", "line 1, character 1: `00` does not end in an integer type"),
             ("0x", "line 1, character 1: `0x` does not end in an integer type"),
+            ("#256", "line 1, character 1: `#256` has a number above 255"),
+            ("1 2×", "line 1, character 3: no token follows `2×`"),
             ("SuffixedInteger:i33", "line 1, character 17: `i33` is no value type"),
             ("''", f"line 1, character 1: {penne_row.NO_CHAR}"),
             ("'ab'", f"line 1, character 1: {penne_row.NO_CHAR}"),

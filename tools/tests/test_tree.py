@@ -7,7 +7,7 @@ import penne_row
 import penne_tree
 from places import PROGRAM, TOOLS
 
-# Blocks of an entry with its tokens, what is written for them, and how that is drawn. The nodes are the Rust's.
+# Blocks of a question (questions), what is written for it, and how that is drawn. The nodes are upstream's.
 DRAWINGS = os.path.join(TOOLS, "tests/drawings.txt")
 
 SENTENCES = os.path.join(TOOLS, "tests/refusals.txt")
@@ -38,8 +38,19 @@ class Drawings(unittest.TestCase):
         self.assertEqual(run("ok 1 3 2\n0 27 1\n1 18 0\n"), (0, expected, ""))
 
     def test_a_row_that_begins_with_a_minus(self):
-        status, drawing, _ = run("ok 2 2 3\n0 27 1\n1 24 0\n2 23 0\n", "--row=-1")
-        self.assertEqual((status, drawing.split("\n")[1]), (0, "2 Unary token 0 `-`"))
+        for words in (["--", "-1"], ["-1"], ["--row", "-1"], ["--row=-1"]):
+            status, drawing, _ = run("ok 2 2 3\n0 27 1\n1 24 0\n2 23 0\n", *words)
+            self.assertEqual((status, drawing.split("\n")[1]), (0, "2 Unary token 0 `-`"))
+
+    def test_tokens_that_were_not_read(self):
+        for line, told in (
+            ("1", None),
+            ("1 2", "Token 1 was not read: `2`."),
+            ("1 2 3", "Tokens 1 to 2 were not read: `2 3`."),
+            ("1 10×2", "Tokens 1 to 10 were not read: `2 2 2 2 2 2 2 2 ..`."),
+        ):
+            _, drawing, _ = run("ok 0 1 1\n0 27 0\n", line)
+            self.assertEqual(drawing.split("\n")[1:-2], [told] if told else [])
 
     def test_a_drawing_that_is_cut_short(self):
         nodes = "0 27 0\n" + "".join(f"{number} 18 0\n" for number in range(1, 1000))

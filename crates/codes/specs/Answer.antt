@@ -31,11 +31,11 @@ pub record Form (A R : Type 0) : Type 0 where
   pub read : A → ℕ → ℕ → R
   pub refused : Parsed → R
 
--- "A refusal gives number, start, end, cursor and node count."
+-- the values of a refusal (MANUAL.md, Replies)
 abbrev pub refusal : ℕ → ℕ → ℕ → ℕ → ℕ → Parsed
 refusal number start end cursor count = Refused number (token start) (token end) (token cursor) count
 
--- "Acceptance gives root node, cursor and node count."
+-- the values of an acceptance (MANUAL.md, Replies)
 abbrev pub parsed : Form ℕ Parsed
 parsed = record { read = λ root cursor count. Node (nodeId root) (token cursor) count; refused = λ r. r }
 

@@ -1,4 +1,4 @@
-// The limits of document 01.
+// The limits: MANUAL.md, Limits.
 pub struct Limit(pub u32);
 
 impl Limit {

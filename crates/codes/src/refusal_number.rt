@@ -1,11 +1,11 @@
-// The refusals by number, as document 01 has them under "Replies by number".
+// The refusals by number: MANUAL.md, Refusals.
 pub struct Refusal(pub u8);
 
 impl Refusal {
-    // The columns of the row differ in length, or hold no token or too many.
+    // A row whose two columns do not match, or with no token, or with too many.
     pub const BadRow: u8 = 1;
 
-    // A kind above 61 or a value type above 14.
+    // A code that is no kind of a token, or no value type.
     pub const BadToken: u8 = 2;
 
     // The last kind is not EndOfSource.
@@ -39,36 +39,36 @@ impl Refusal {
     // The start of a primary expression.
     pub const ExpectedPrimary: u8 = 21;
 
-    // No colon after the name of a constant; the token is not taken.
+    // A constant without a type: what follows its name is no colon, and stays untaken.
     pub const MissingConstantType: u8 = 22;
 
-    // No colon after the name of a member; the token is not taken.
+    // A member without a type, likewise.
     pub const MissingMemberType: u8 = 23;
 
-    // Too many ampersands or reference steps.
+    // A reference with more ampersands or steps than may be.
     pub const MaximumParseDepthExceeded: u8 = 24;
 
     // No comma after a member.
     pub const ExpectedComma: u8 = 25;
 
-    // The cursor or the start of the declaration is not below the token count.
+    // The cursor, or the start of a declaration, is no token of the row.
     pub const BadCursor: u8 = 30;
 
-    // The node columns differ in length, or hold too many slots.
+    // Node columns that do not match, or with too many slots.
     pub const BadColumns: u8 = 31;
 
-    // The node count is above the slots.
+    // More nodes than slots.
     pub const BadCount: u8 = 32;
 
-    // A node is to be appended, and the count equals the slots.
+    // No slot is left for the next node.
     pub const NoSlot: u8 = 33;
 
-    // An expression or inner type is to begin, and 200 are already open.
+    // One expression or inner type more than may be open at once.
     pub const NestingExceeded: u8 = 34;
 
-    // The declaration flags are above 31.
+    // Flags that are no sum of the five.
     pub const BadFlags: u8 = 35;
 
-    // The kind given for a word declaration is not 47 to 51.
+    // A declaring token that is none of those of words.
     pub const BadWordKind: u8 = 36;
 }

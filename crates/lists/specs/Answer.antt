@@ -48,7 +48,7 @@ fieldEnd l name e row = do
   content ← append ParseNode.IdentifierAndExpression name
   itemEnd columns row BaseToken.BraceRight l content
 
--- "A field without colon reads as a reference to its own name."
+-- after a field that is a name alone, which stands for `name: name` (MANUAL.md, Lists)
 unfoldable pub shorthandEnd : Counted → ℕ → Row → Rule Nodes (Step Counted Counted)
 shorthandEnd l name row = do
   e ← nameAlone columns name

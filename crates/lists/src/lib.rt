@@ -186,7 +186,7 @@ pub fn finish_field(
     )
 }
 
-// The field at `name` without colon: a reference to its own name.
+// The field at `name` without a colon, which stands for `name: name`.
 pub fn finish_shorthand(
     kinds: &[u8],
     node_kinds: &mut [u8],

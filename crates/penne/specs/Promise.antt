@@ -48,7 +48,7 @@ pub record Accepted (tokens : ℕ) (q : Rule (Unit {0}) Tree) (c given : ℕ) (s
   pub taken : q c tt .cursor ≡ cursor
   pub whole : Whole s given root tree
   pub last : root + 1 ≡ s .count
-  -- "Cursor equals the token count only in a refusal."
+  -- the last token, EndOfSource, is never taken
   pub inside : cursor < tokens
 
 -- The rule q with trees refuses with the same number, start, end and cursor.
@@ -74,7 +74,8 @@ pub record Promise (tokens : ℕ) (e : Check) (m : Rule Nodes ℕ) (q : Rule (Un
   pub within : e ≡ none → cursorOf r ≤ tokens
 
 module _ (row : Row) (c : ℕ) (o : Nodes) where
-  -- An entry over the row, from the cursor c and the columns o; its check takes the slots of both columns and the count.
+  -- An entry over the row, from the cursor c and the columns o; its check takes the slots of both columns and the
+  -- count.
   abbrev entry :
       (ℕ → ℕ → ℕ → Check) → Rule Nodes ℕ → Rule (Unit {0}) Tree → Parsed → List ℕ → List ℕ → Type 0
   entry e m q = Promise (length (row .kinds)) (e (length (o .kinds)) (length (o .loads)) (o .count)) m q c o

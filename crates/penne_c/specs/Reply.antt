@@ -22,7 +22,7 @@ Refused' = 1
 unfoldable pub placed : List ℕ → ℕ → ℕ → ℕ → ℕ → ℕ → ℕ → List ℕ
 placed rs case a b c d e = set (set (set (set (set (set rs 0 case) 1 a) 2 b) 3 c) 4 d) 5 e
 
--- "Acceptance gives root node, cursor and node count. A refusal gives number, start, end, cursor and node count."
+-- the values of a reply in their order, by its case (MANUAL.md, Replies)
 abbrev pub written : List ℕ → Parsed → List ℕ
 written rs (Node root cursor count) = placed rs Accepted (root .0) (cursor .0) count 0 0
 written rs (Refused number start end cursor count) = placed rs Refused' number (start .0) (end .0) (cursor .0) count

@@ -1,11 +1,12 @@
-// The five entries of crate penne for programs in C and in Rust, which pass numbers and slices only. Each function is
-// lent a column `reply` and writes the entry's reply into its first six places: the case, then the five numbers of a
-// refusal, or the three of an acceptance and two zeros. Where the column has fewer places nothing is read or written,
-// and the result is false. Nothing is asked of the input, and nothing is allocated.
+// The five entries of crate penne for programs in C and in Rust, which pass numbers and slices only, and the table of
+// parts. Each entry is lent a column `reply` and writes its reply into the first six places: the case, then the five
+// numbers of a refusal, or the three of an acceptance and two zeros. Where the column has fewer places nothing is read or
+// written, and the result is false. Nothing is asked of the input, and nothing is allocated.
 ghost use mathlib.Core.Path.{_≡_};
 ghost use Prim.Native.Nat.{_≤_};
 ghost use lib.ListN.{length};
 ghost use Rattle.codes.specs.Answer.{row, nodes};
+ghost use Rattle.codes.specs.Parts.{partCode};
 ghost use Rattle.penne.specs.Promise.{Expression, Type', Constant, Struct, Word};
 ghost use Rattle.penne_c.specs.Reply.{Places, placed, written, Replied};
 use codes::Parsed;
@@ -206,4 +207,13 @@ pub extern "C" fn penne_parse_word_declaration(
     );
     write(reply, parsed);
     true
+}
+
+// The code of a node's part by the node's kind and the part's place, counted from 0: k for the node k back, 9 for the one
+// that the load names, 0 where there is none.
+#[no_mangle]
+pub extern "C" fn penne_part(kind: u8, which: u8) -> u8
+    ensures { λ r. ⌜ r ≡ partCode kind which ⌝ }
+{
+    codes::part(kind, which)
 }

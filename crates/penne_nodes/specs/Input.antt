@@ -1,5 +1,5 @@
--- The input of penne-nodes: "three little-endian 32-bit sizes (tokens, at most 4,096; cursor; entry, 0 expression or 1
--- type), then kinds, then value types. A larger size, another length or another entry prints `bad file`."
+-- The input of penne-nodes: how many tokens, the cursor and the entry in four bytes each, then a byte for each kind and
+-- a byte for each value type. What is not of this form is a bad file (MANUAL.md, The program penne-nodes).
 use Prim.Native.Nat.{ℕ, _+_, _*_}
 use mathlib.Core.Bool.{Bool}
 use mathlib.Core.List.{List}
@@ -14,7 +14,7 @@ use Rattle.rules.specs.Columns.{Nodes, columns}
 use Rattle.rules.specs.Types.{type}
 use Rattle.rules.specs.Expressions.{expression}
 
--- "It has 8,197 slots."
+-- the slots for its nodes
 abbrev pub Slots : ℕ
 Slots = 8197
 

@@ -38,13 +38,13 @@ word a b n = a ∷ b ∷ after space n
 unfoldable pub two : ℕ → ℕ → List ℕ
 two m n = after space m ++ after space n
 
--- "Output: `ok`, root, cursor, count; .. A refusal prints `no` and its five numbers"
+-- the first line: `ok` or `no`, and the values of the reply (MANUAL.md, The program penne-nodes)
 unfoldable pub reply : Parsed → List ℕ
 reply (Node root cursor count) = word 111 107 (root .0) ++ two (cursor .0) count ++ newline
 reply (Refused number start end cursor count) =
     word 110 111 number ++ two (start .0) (end .0) ++ two (cursor .0) count ++ newline
 
--- "each node's number, kind, load"
+-- a line of three numbers for a node
 unfoldable pub line : ℕ → ℕ → ℕ → List ℕ
 line number kind load = decimal number ++ two kind load ++ newline
 

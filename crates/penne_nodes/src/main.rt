@@ -1,9 +1,8 @@
 // penne-nodes: reads a row from standard input, parses it by an entry of crate penne, and writes the reply and nodes.
 //
-// The input is three little-endian 32-bit sizes (the tokens, at most 4,096; the cursor; and the entry, 0 for an
-// expression or 1 for a type), then the kinds and then the value types, a byte for each token. Any other input is a bad
-// file. The text for an input is proved to be the one that specs/Output.antt gives; it is written at once, and where a
-// read or a write fails, standard error says so.
+// The form of the input is that of specs/Input.antt, which the manual describes (MANUAL.md, The program penne-nodes). The
+// text for an input is proved to be the one that specs/Output.antt gives; it is written at once, and where a read or a
+// write fails, standard error says so.
 ghost use Prim.Native.Nat.{_≤_};
 ghost use mathlib.Core.Path.{_≡_};
 ghost use lib.ListN.{length};

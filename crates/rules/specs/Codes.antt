@@ -46,7 +46,8 @@ refusals =
 abbrev pub refusalOf : ℕ → ℕ
 refusalOf k = entry k refusals 0
 
--- A part of a node (document 01, "Parts of a node"): the node so many places back, or the one that its load names.
+-- A part of a node (document 01's term): the node so many places back, or the one that its load names (MANUAL.md,
+-- Parts).
 pub data Part : Type 0 where
   back : ℕ → Part
   linked : Part

@@ -3,8 +3,8 @@
 use std::hint::black_box;
 
 use oracle::{Buffer, Entry, Reply, Row};
-// Only linked: the library's functions are called directly here.
-use penne_parser as _;
+use penne_parser::raw::{self, PLACES};
+use penne_parser::{self as penne, Slots};
 
 use crate::rows::Case;
 
@@ -28,86 +28,6 @@ pub enum Side {
 }
 
 pub const SIDES: [Side; 3] = [Side::Rust, Side::Ours, Side::Checks];
-
-unsafe extern "C" {
-    fn penne_parse_expression(
-        kinds: *const u8,
-        n: usize,
-        types: *const u8,
-        n2: usize,
-        cursor: u32,
-        node_kinds: *mut u8,
-        m: usize,
-        node_loads: *mut u32,
-        m2: usize,
-        count: u32,
-        reply: *mut u32,
-        k: usize,
-    ) -> bool;
-    fn penne_parse_type(
-        kinds: *const u8,
-        n: usize,
-        types: *const u8,
-        n2: usize,
-        cursor: u32,
-        node_kinds: *mut u8,
-        m: usize,
-        node_loads: *mut u32,
-        m2: usize,
-        count: u32,
-        reply: *mut u32,
-        k: usize,
-    ) -> bool;
-    fn penne_parse_constant_declaration(
-        kinds: *const u8,
-        n: usize,
-        types: *const u8,
-        n2: usize,
-        cursor: u32,
-        node_kinds: *mut u8,
-        m: usize,
-        node_loads: *mut u32,
-        m2: usize,
-        count: u32,
-        start: u32,
-        flags: u32,
-        reply: *mut u32,
-        k: usize,
-    ) -> bool;
-    fn penne_parse_struct_declaration(
-        kinds: *const u8,
-        n: usize,
-        types: *const u8,
-        n2: usize,
-        cursor: u32,
-        node_kinds: *mut u8,
-        m: usize,
-        node_loads: *mut u32,
-        m2: usize,
-        count: u32,
-        start: u32,
-        flags: u32,
-        reply: *mut u32,
-        k: usize,
-    ) -> bool;
-    fn penne_parse_word_declaration(
-        kinds: *const u8,
-        n: usize,
-        types: *const u8,
-        n2: usize,
-        cursor: u32,
-        node_kinds: *mut u8,
-        m: usize,
-        node_loads: *mut u32,
-        m2: usize,
-        count: u32,
-        start: u32,
-        flags: u32,
-        declaring_token: u8,
-        reply: *mut u32,
-        k: usize,
-    ) -> bool;
-}
 
 /// The buffers of both sides.
 pub struct Buffers {
@@ -164,19 +84,11 @@ impl Ready {
         let mut nodes = 0;
         for (theirs, row) in self.rust.iter().zip(&self.ours) {
             let reply = rust(self.entry, theirs, &mut buffers.rust);
-            let Reply::Accepted {
-                root,
-                cursor,
-                count,
-            } = reply
-            else {
-                panic!("the Rust answers {reply:?}");
+            let Reply::Accepted { cursor, count, .. } = reply else {
+                panic!("the Rust answers {reply}");
             };
             assert_eq!(cursor as usize, row.0.len() - 1);
-            assert_eq!(
-                ours(self.entry, row, 0, buffers),
-                [0, root, cursor, count, 0, 0]
-            );
+            assert_eq!(ours(self.entry, row, 0, buffers), reply.numbers());
             for (place, node) in buffers.rust.appended().enumerate() {
                 assert_eq!((buffers.node_kinds[place], buffers.node_loads[place]), node);
             }
@@ -205,29 +117,21 @@ fn ours(
     (kinds, types): &(Vec<u8>, Vec<u8>),
     cursor: u32,
     to: &mut Buffers,
-) -> [u32; 6] {
-    let mut reply = [0; 6];
-    macro_rules! call {
-        ($function:ident($($more:expr),*)) => {
-            // Safety: each pointer goes with the length of what it points to, what is written is
-            // borrowed exclusively, and the library keeps no pointer.
-            unsafe {
-                $function(
-                    kinds.as_ptr(), kinds.len(), types.as_ptr(), types.len(), cursor,
-                    to.node_kinds.as_mut_ptr(), to.node_kinds.len(),
-                    to.node_loads.as_mut_ptr(), to.node_loads.len(), 0,
-                    $($more,)* reply.as_mut_ptr(), reply.len(),
-                )
-            }
-        };
-    }
-    let flags = u32::from(FLAGS);
-    match entry {
-        Entry::Expression => call!(penne_parse_expression()),
-        Entry::Type => call!(penne_parse_type()),
-        Entry::Constant => call!(penne_parse_constant_declaration(START, flags)),
-        Entry::Struct => call!(penne_parse_struct_declaration(START, flags)),
-        Entry::Word => call!(penne_parse_word_declaration(START, flags, WORD)),
+) -> [u32; PLACES] {
+    let entry = raw::Entry::numbered(entry as u8, START, u32::from(FLAGS), WORD);
+    let entry = entry.expect("one of five");
+    let slots = Slots {
+        kinds: &mut to.node_kinds,
+        loads: &mut to.node_loads,
+        count: &mut 0,
     };
+    let mut reply = [0; PLACES];
+    raw::parse(
+        entry,
+        penne::Row::new(kinds, types),
+        cursor,
+        slots,
+        &mut reply,
+    );
     reply
 }

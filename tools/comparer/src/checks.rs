@@ -5,7 +5,7 @@ use crate::kind;
 use crate::question::{Entry, MOST_FLAGS, MOST_SLOTS, MOST_TOKENS, Question, Reply, Row};
 
 /// The first of refusals 1, 2, 3, 30, 31, 32, 35, 36 that the input meets.
-/// Cursor and count are the given ones.
+/// They keep the cursor and the count that were given.
 pub fn refusal(row: Row<'_>, question: &Question) -> Option<Reply> {
     let (number, start) = of_row(row).or_else(|| of_state(row, question).map(|n| (n, 0)))?;
     Some(Reply::Refused {
@@ -17,7 +17,7 @@ pub fn refusal(row: Row<'_>, question: &Question) -> Option<Reply> {
     })
 }
 
-/// "From the input, in this order": number and start.
+/// Of the row: number and start.
 fn of_row(row: Row<'_>) -> Option<(u32, u32)> {
     let Row { kinds, types } = row;
     if kinds.len() != types.len() || kinds.is_empty() || kinds.len() > MOST_TOKENS {
@@ -31,7 +31,7 @@ fn of_row(row: Row<'_>) -> Option<(u32, u32)> {
     (kinds[last] != kind::END_OF_SOURCE).then_some((3, last as u32))
 }
 
-/// "From the state, after 1 to 3 and before parsing, start 0, in this order."
+/// Of what is given with a good row; all of these start at 0.
 fn of_state(row: Row<'_>, q: &Question) -> Option<u32> {
     let outside = |token: u32| token as usize >= row.kinds.len();
     if outside(q.cursor) || q.declares() && outside(q.start) {

@@ -81,16 +81,13 @@ impl Judge {
         let Some(tokens) = &self.tokens else {
             return "the row cannot be given to it".into();
         };
-        use oracle::Reply::{Accepted, Panicked, Refused};
         match ask(tokens, question, &mut self.buffer) {
-            Ok(Panicked {
+            Ok(Reply::Panicked {
                 cause,
                 cursor,
                 count,
             }) => format!("panics: {cause:?}, cursor {cursor}, count {count}"),
-            Ok(reply @ (Accepted { .. } | Refused { .. })) => {
-                in_document_01(reply).map_or_else(|Doubt(text)| text, |reply| reply.to_string())
-            }
+            Ok(reply) => reply.to_string(),
             Err(_) => "this cannot be given to it".into(),
         }
     }
@@ -146,16 +143,16 @@ impl Judge {
     }
 
     /// The reading of levels and the Rust must end alike.
-    fn agree(&self, q: &Question, reading: Reading, rust: oracle::Reply) -> Result<(), Doubt> {
+    fn agree(&self, q: &Question, reading: Reading, rust: Reply) -> Result<(), Doubt> {
         let (end, cursor) = match rust {
-            oracle::Reply::Accepted { cursor, .. } => (End::Accepted, cursor),
-            oracle::Reply::Refused { cursor, .. } => (End::Refused, cursor),
+            Reply::Accepted { cursor, .. } => (End::Accepted, cursor),
+            Reply::Refused { cursor, .. } => (End::Refused, cursor),
             // It did not come to an end.
-            oracle::Reply::Panicked {
+            Reply::Panicked {
                 cause: Cause::Slots,
                 ..
             } => return Ok(()),
-            oracle::Reply::Panicked { cursor, .. } => (End::Refused, cursor),
+            Reply::Panicked { cursor, .. } => (End::Refused, cursor),
         };
         let deepest = oracle::nesting(q.entry, rust, &self.buffer).unwrap_or(reading.deepest);
         let rust = Reading {
@@ -182,7 +179,7 @@ fn doubt(text: &str) -> Doubt {
 }
 
 /// The Rust's own answer to a question that passed the checks.
-fn ask(tokens: &oracle::Row, q: &Question, buffer: &mut Buffer) -> Result<oracle::Reply, Doubt> {
+fn ask(tokens: &oracle::Row, q: &Question, buffer: &mut Buffer) -> Result<Reply, Doubt> {
     let declares = q.declares();
     let question = oracle::Question {
         entry: q.entry,
@@ -203,55 +200,8 @@ fn ask(tokens: &oracle::Row, q: &Question, buffer: &mut Buffer) -> Result<oracle
 }
 
 /// Where the Rust panics, document 01 has 33 and 25.
-fn in_document_01(reply: oracle::Reply) -> Result<Reply, Doubt> {
-    use oracle::Reply::{Accepted, Panicked, Refused};
-    let (number, start, cursor, count) = match reply {
-        Accepted {
-            root,
-            cursor,
-            count,
-        } => {
-            return Ok(Reply::Accepted {
-                root,
-                cursor,
-                count,
-            });
-        }
-        Refused {
-            number,
-            start,
-            end,
-            cursor,
-            count,
-        } => {
-            return Ok(Reply::Refused {
-                number,
-                start,
-                end,
-                cursor,
-                count,
-            });
-        }
-        Panicked {
-            cause: Cause::Slots,
-            cursor,
-            count,
-        } => (33, cursor, cursor, count),
-        Panicked {
-            cause: Cause::Unreachable,
-            cursor,
-            count,
-        } => (25, cursor - 1, cursor, count),
-        Panicked {
-            cause: Cause::Other,
-            ..
-        } => return Err(doubt("the Rust panicked for no known cause")),
-    };
-    Ok(Reply::Refused {
-        number,
-        start,
-        end: start,
-        cursor,
-        count,
-    })
+fn in_document_01(reply: Reply) -> Result<Reply, Doubt> {
+    reply
+        .in_document_01()
+        .ok_or_else(|| doubt("the Rust panicked for no known cause"))
 }

@@ -1,4 +1,4 @@
-//! Compares the proved parser with the Rust. The script tools/compare builds
+//! Compares the proved parser with upstream's. The script tools/compare builds
 //! and runs this; README.md says what is compared.
 
 mod ours;
@@ -10,13 +10,25 @@ use std::time::Instant;
 
 use comparer::compare::{Comparer, Finding};
 use comparer::families::{Family, Part};
-use comparer::question::{Entry, MOST_SLOTS, Question, Row, read_line};
+use comparer::question::{Entry, Question, Row, read_line};
 use comparer::tally::Tally;
 use ours::Ours;
 
-const USAGE: &str = "usage: compare [--seed N] [--rows N] [--only FAMILY] [--threads N]
+const USAGE: &str = "\
+Compares the proved parser with upstream's, row by row.
+
+usage: compare [--seed N] [--rows N] [--only FAMILY] [--threads N]
        compare --ask 'ENTRY CURSOR BASE FLAGS START WORDKIND KINDS TYPES SLOTS'
-FAMILY is one of limits, short, four, value-types, dozens, six, rules, damaged, any, slots, deep, inputs";
+
+  --seed N       which random rows are made (1)
+  --rows N       how many rows are made at random (100,000,000)
+  --only FAMILY  leave the others out: limits, short, four, value-types, dozens, six, rules, damaged, any, slots,
+                 deep or inputs (all)
+  --threads N    how many run at once (as many as there are processors)
+  --ask ..       print both answers to one question: ENTRY is 0 to 4 for expression, type, constant, struct and word,
+                 KINDS and TYPES have two hexadecimal digits a token, and `-` stands for none, or for zeros
+
+The status is 0 if there is no difference, 1 if there is one, and 2 if an option is wrong.";
 
 struct Options {
     seed: u64,
@@ -34,29 +46,27 @@ fn main() -> ExitCode {
             println!("{USAGE}");
             ExitCode::SUCCESS
         }
-        ["--ask", line] => show(line),
-        _ => options(&words).map_or_else(usage, |options| run(&options)),
+        ["--ask", line] => show(line).unwrap_or_else(wrong),
+        ["--ask", ..] => wrong("--ask takes one word, the question in quotes".into()),
+        _ => options(&words).map_or_else(wrong, |options| run(&options)),
     }
 }
 
-fn usage() -> ExitCode {
-    eprintln!("{USAGE}");
+fn wrong(why: String) -> ExitCode {
+    eprintln!("compare: {why}\n`tools/compare --help` shows what can be asked.");
     ExitCode::from(2)
 }
 
 /// Prints both answers to one question.
-fn show(line: &str) -> ExitCode {
-    let read = read_line(line).filter(|(.., question)| question.slots <= MOST_SLOTS + 1);
-    let Some((kinds, types, question)) = read else {
-        return usage();
-    };
+fn show(line: &str) -> Result<ExitCode, String> {
+    let (kinds, types, question) = read_line(line)?;
     let row = Row {
         kinds: &kinds,
         types: &types,
     };
     let text = oracle::with_large_stack(|| Comparer::new(Ours).show(row, question));
     print!("difference: {text}");
-    ExitCode::SUCCESS
+    Ok(ExitCode::SUCCESS)
 }
 
 fn run(options: &Options) -> ExitCode {
@@ -85,7 +95,7 @@ fn run(options: &Options) -> ExitCode {
     }
 }
 
-fn options(arguments: &[&str]) -> Option<Options> {
+fn options(arguments: &[&str]) -> Result<Options, String> {
     let mut options = Options {
         seed: 1,
         rows: 100_000_000,
@@ -93,21 +103,41 @@ fn options(arguments: &[&str]) -> Option<Options> {
         threads: std::thread::available_parallelism().map_or(1, usize::from),
     };
     let mut arguments = arguments.iter();
-    while let Some(argument) = arguments.next() {
-        let value = arguments.next()?;
-        match *argument {
-            "--seed" => options.seed = value.parse().ok()?,
-            "--rows" => options.rows = value.parse().ok()?,
-            "--threads" => options.threads = value.parse().ok().filter(|&n| n > 0)?,
-            "--only" => options.only = Some(family(value)?),
-            _ => return None,
+    while let Some(&argument) = arguments.next() {
+        let mut value = || {
+            let value = arguments.next();
+            value
+                .copied()
+                .ok_or(format!("{argument} has no value after it"))
+        };
+        match argument {
+            "--seed" => options.seed = number(argument, value()?)?,
+            "--rows" => options.rows = number(argument, value()?)?,
+            "--threads" => options.threads = number(argument, value()?)?,
+            "--only" => options.only = Some(family(value()?)?),
+            _ => return Err(format!("there is no option `{argument}`")),
         }
     }
-    Some(options)
+    if options.threads == 0 {
+        return Err("--threads is 0, and one is the least".into());
+    }
+    Ok(options)
 }
 
-fn family(name: &str) -> Option<Family> {
-    Family::ALL.into_iter().find(|family| family.name() == name)
+fn number<T: std::str::FromStr>(option: &str, text: &str) -> Result<T, String> {
+    text.parse()
+        .map_err(|_| format!("`{text}` after {option} is no number that it can have"))
+}
+
+fn family(name: &str) -> Result<Family, String> {
+    let named = Family::ALL.into_iter().find(|family| family.name() == name);
+    named.ok_or_else(|| {
+        let names: Vec<_> = Family::ALL.iter().map(|family| family.name()).collect();
+        format!(
+            "there is no family `{name}`; there are {}",
+            names.join(", ")
+        )
+    })
 }
 
 /// Runs all parts, each thread taking the next one that is left.

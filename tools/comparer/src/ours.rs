@@ -1,36 +1,9 @@
-//! The proved parser, by its functions for C.
+//! The proved parser, by the package for Rust.
 
 use comparer::compare::Parser;
-use comparer::question::{Entry, Question, Row};
-
-/// A slice is its address and its length.
-macro_rules! entry {
-    ($name:ident $(, $more:ident: $kind:ty)*) => {
-        unsafe extern "C" {
-            fn $name(
-                kinds: *const u8,
-                kinds_length: usize,
-                types: *const u8,
-                types_length: usize,
-                cursor: u32,
-                node_kinds: *mut u8,
-                node_kinds_length: usize,
-                node_loads: *mut u32,
-                node_loads_length: usize,
-                count: u32,
-                $($more: $kind,)*
-                reply: *mut u32,
-                reply_length: usize,
-            ) -> bool;
-        }
-    };
-}
-
-entry!(penne_parse_expression);
-entry!(penne_parse_type);
-entry!(penne_parse_constant_declaration, start: u32, flags: u32);
-entry!(penne_parse_struct_declaration, start: u32, flags: u32);
-entry!(penne_parse_word_declaration, start: u32, flags: u32, declaring_token: u8);
+use comparer::question::{Question, Row};
+use penne_parser::raw::{self, Entry, PLACES};
+use penne_parser::{self as penne, Slots};
 
 pub struct Ours;
 
@@ -41,8 +14,8 @@ impl Parser for Ours {
         question: &Question,
         node_kinds: &mut [u8],
         node_loads: &mut [u32],
-    ) -> [u32; 6] {
-        let mut reply = [u32::MAX; 6];
+    ) -> [u32; PLACES] {
+        let mut reply = [u32::MAX; PLACES];
         let done = call(row, question, node_kinds, node_loads, &mut reply);
         assert!(done, "a reply of six numbers was not taken");
         reply
@@ -53,37 +26,17 @@ impl Parser for Ours {
 pub fn call(
     row: Row<'_>,
     q: &Question,
-    node_kinds: &mut [u8],
-    node_loads: &mut [u32],
+    kinds: &mut [u8],
+    loads: &mut [u32],
     reply: &mut [u32],
 ) -> bool {
-    macro_rules! call {
-        ($name:ident $(, $more:expr)*) => {
-            // Safety: each address is that of a slice of the length beside it.
-            unsafe {
-                $name(
-                    row.kinds.as_ptr(),
-                    row.kinds.len(),
-                    row.types.as_ptr(),
-                    row.types.len(),
-                    q.cursor,
-                    node_kinds.as_mut_ptr(),
-                    node_kinds.len(),
-                    node_loads.as_mut_ptr(),
-                    node_loads.len(),
-                    q.base,
-                    $($more,)*
-                    reply.as_mut_ptr(),
-                    reply.len(),
-                )
-            }
-        };
-    }
-    match q.entry {
-        Entry::Expression => call!(penne_parse_expression),
-        Entry::Type => call!(penne_parse_type),
-        Entry::Constant => call!(penne_parse_constant_declaration, q.start, q.flags),
-        Entry::Struct => call!(penne_parse_struct_declaration, q.start, q.flags),
-        Entry::Word => call!(penne_parse_word_declaration, q.start, q.flags, q.word_kind),
-    }
+    let entry = Entry::numbered(q.entry as u8, q.start, q.flags, q.word_kind);
+    let count = &mut { q.base };
+    let slots = Slots {
+        kinds,
+        loads,
+        count,
+    };
+    let row = penne::Row::new(row.kinds, row.types);
+    raw::parse(entry.expect("one of five"), row, q.cursor, slots, reply)
 }

@@ -2,12 +2,8 @@
 
 use std::fmt;
 
-pub use oracle::Entry;
-
-pub const MOST_TOKENS: usize = 65_535;
-pub const MOST_SLOTS: u32 = 131_075;
-pub const MOST_FLAGS: u32 = 31;
-pub const MOST_OPEN: u32 = 200;
+use oracle::hexadecimal;
+pub use oracle::{Entry, MOST_FLAGS, MOST_OPEN, MOST_SLOTS, MOST_TOKENS, Numbers, Reply};
 
 /// The two columns of a row. Their lengths may differ: that is refusal 1.
 #[derive(Debug, Clone, Copy, PartialEq, Eq)]
@@ -63,85 +59,6 @@ impl Question {
     }
 }
 
-#[derive(Debug, Clone, Copy, PartialEq, Eq)]
-pub enum Reply {
-    Accepted {
-        root: u32,
-        cursor: u32,
-        count: u32,
-    },
-    Refused {
-        number: u32,
-        start: u32,
-        end: u32,
-        cursor: u32,
-        count: u32,
-    },
-}
-
-impl Reply {
-    pub fn cursor(&self) -> u32 {
-        match *self {
-            Reply::Accepted { cursor, .. } | Reply::Refused { cursor, .. } => cursor,
-        }
-    }
-
-    pub fn count(&self) -> u32 {
-        match *self {
-            Reply::Accepted { count, .. } | Reply::Refused { count, .. } => count,
-        }
-    }
-
-    /// The number of a refusal, 0 for an acceptance.
-    pub fn number(&self) -> u32 {
-        match *self {
-            Reply::Accepted { .. } => 0,
-            Reply::Refused { number, .. } => number,
-        }
-    }
-
-    /// The six numbers in which the proved library writes a reply: the case,
-    /// then what that case holds.
-    pub fn numbers(&self) -> [u32; 6] {
-        match *self {
-            Reply::Accepted {
-                root,
-                cursor,
-                count,
-            } => [0, root, cursor, count, 0, 0],
-            Reply::Refused {
-                number,
-                start,
-                end,
-                cursor,
-                count,
-            } => [1, number, start, end, cursor, count],
-        }
-    }
-}
-
-/// As the oracle's program prints it.
-impl fmt::Display for Reply {
-    fn fmt(&self, f: &mut fmt::Formatter<'_>) -> fmt::Result {
-        Numbers(self.numbers()).fmt(f)
-    }
-}
-
-/// A reply of six numbers, printed likewise.
-pub struct Numbers(pub [u32; 6]);
-
-impl fmt::Display for Numbers {
-    fn fmt(&self, f: &mut fmt::Formatter<'_>) -> fmt::Result {
-        match self.0 {
-            [0, root, cursor, count, 0, 0] => write!(f, "ok {root} {cursor} {count}"),
-            [1, number, start, end, cursor, count] => {
-                write!(f, "no {number} {start} {end} {cursor} {count}")
-            }
-            other => write!(f, "no reply: {other:?}"),
-        }
-    }
-}
-
 /// A row and a question in the form of the oracle's program:
 /// `ENTRY CURSOR BASE FLAGS START WORDKIND KINDS TYPES SLOTS`.
 pub struct Line<'a>(pub Row<'a>, pub Question);
@@ -158,15 +75,16 @@ impl fmt::Display for Line<'_> {
             q.flags,
             q.start,
             q.word_kind,
-            hexadecimal(row.kinds),
+            hexadecimal::written(row.kinds),
             types_column(row),
             q.slots
         )
     }
 }
 
-/// Reads what `Line` writes: kinds, value types and question.
-pub fn read_line(line: &str) -> Option<(Vec<u8>, Vec<u8>, Question)> {
+/// Reads what `Line` writes: kinds, value types and question; or says what is
+/// wrong with it.
+pub fn read_line(line: &str) -> Result<(Vec<u8>, Vec<u8>, Question), String> {
     let fields: Vec<&str> = line.split_ascii_whitespace().collect();
     let [
         entry,
@@ -180,44 +98,42 @@ pub fn read_line(line: &str) -> Option<(Vec<u8>, Vec<u8>, Question)> {
         slots,
     ] = fields[..]
     else {
-        return None;
+        return Err(format!(
+            "a question has nine fields, and this one has {}",
+            fields.len()
+        ));
     };
-    let kinds = match kinds {
-        "-" => Vec::new(),
-        digits => bytes(digits)?,
-    };
-    let types = match types {
-        "-" => vec![0; kinds.len()],
-        digits => bytes(digits)?,
-    };
-    let entry = *Entry::ALL.get(entry.parse::<usize>().ok()?)?;
+    let kinds = hexadecimal::read(kinds).ok_or_else(|| not_bytes("KINDS", kinds))?;
+    let types = hexadecimal::read_types(types, &kinds).ok_or_else(|| not_bytes("TYPES", types))?;
+    let number: usize = field("ENTRY", entry)?;
+    let entry = *Entry::ALL
+        .get(number)
+        .ok_or_else(|| format!("ENTRY is {number}, and there are 0 to 4"))?;
     let question = Question {
-        cursor: cursor.parse().ok()?,
-        base: base.parse().ok()?,
-        flags: flags.parse().ok()?,
-        start: start.parse().ok()?,
-        word_kind: word_kind.parse().ok()?,
-        ..Question::new(entry, slots.parse().ok()?)
+        cursor: field("CURSOR", cursor)?,
+        base: field("BASE", base)?,
+        flags: field("FLAGS", flags)?,
+        start: field("START", start)?,
+        word_kind: field("WORDKIND", word_kind)?,
+        ..Question::new(entry, field("SLOTS", slots)?)
     };
-    Some((kinds, types, question))
+    if question.slots > MOST_SLOTS + 1 {
+        return Err(format!(
+            "SLOTS is {slots}, and at most {} are asked about",
+            MOST_SLOTS + 1
+        ));
+    }
+    Ok((kinds, types, question))
 }
 
-/// Two hexadecimal digits a byte.
-fn bytes(digits: &str) -> Option<Vec<u8>> {
-    if !digits.len().is_multiple_of(2) || !digits.is_ascii() {
-        return None;
-    }
-    (0..digits.len())
-        .step_by(2)
-        .map(|at| u8::from_str_radix(&digits[at..at + 2], 16).ok())
-        .collect()
+/// A number of a question.
+fn field<T: std::str::FromStr>(name: &str, text: &str) -> Result<T, String> {
+    text.parse()
+        .map_err(|_| format!("{name} is `{text}`, which is no number that it can have"))
 }
 
-fn hexadecimal(bytes: &[u8]) -> String {
-    if bytes.is_empty() {
-        return "-".into();
-    }
-    bytes.iter().map(|byte| format!("{byte:02x}")).collect()
+fn not_bytes(name: &str, text: &str) -> String {
+    format!("{name} is `{text}`, and not two hexadecimal digits a token, nor `-`")
 }
 
 /// `-` stands for as many zeros as there are kinds.
@@ -225,6 +141,6 @@ fn types_column(row: &Row<'_>) -> String {
     if row.types.len() == row.kinds.len() && row.types.iter().all(|&t| t == 0) {
         "-".into()
     } else {
-        hexadecimal(row.types)
+        hexadecimal::written(row.types)
     }
 }

@@ -79,7 +79,16 @@ fn lines_are_read_as_they_are_written() {
         (&kinds[..], &types[..], read),
         (row.kinds, row.types, question)
     );
-    assert_eq!(read_line("4 1 2 3 2 51 351400 000e00"), None);
-    assert_eq!(read_line("5 1 2 3 2 51 351400 000e00 9"), None);
-    assert_eq!(read_line("4 1 2 3 2 51 35140 000e00 9"), None);
+    for (line, why) in [
+        ("4 1 2 3 2 51 351400 000e00", "this one has 8"),
+        ("5 1 2 3 2 51 351400 000e00 9", "ENTRY is 5"),
+        ("4 x 2 3 2 51 351400 000e00 9", "CURSOR is `x`"),
+        ("4 1 2 3 2 256 351400 000e00 9", "WORDKIND is `256`"),
+        ("4 1 2 3 2 51 35140 000e00 9", "KINDS is `35140`"),
+        ("4 1 2 3 2 51 351400 +1+1+1 9", "TYPES is `+1+1+1`"),
+        ("4 1 2 3 2 51 351400 000e00 131077", "SLOTS is 131077"),
+    ] {
+        let error = read_line(line).expect_err("no question");
+        assert!(error.contains(why), "{error}");
+    }
 }

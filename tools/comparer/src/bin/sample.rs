@@ -451,6 +451,7 @@ fn sights(judge: &Judge, question: &Question, reply: Reply) -> Vec<(Sight, u32)>
             let last = nodes.last().map_or(255, |node| node.0);
             sights.push((Sight::After(entry, number, last), 2));
         }
+        Reply::Panicked { .. } => unreachable!("the judge answers with refusals"),
     }
     for &(kind, load) in nodes {
         match kind {

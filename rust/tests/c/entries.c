@@ -1,4 +1,4 @@
-/* Document 01's example, a refusal, a declaration, and a reply with too few places. */
+/* A sum, refusals, declarations, a reply with too few places, and parts of nodes. */
 #include "penne.h"
 
 #include <stdio.h>
@@ -80,11 +80,21 @@ static void a_short_reply(void)
     expect(node_kinds[0] == 7 && reply[0] == 0x07070707, "and nothing is done");
 }
 
+static void parts(void)
+{
+    expect(penne_part(PENNE_PARSE_NODE_BINARY, 0) == 1, "the operator of a Binary is one back");
+    expect(penne_part(PENNE_PARSE_NODE_BINARY, 2) == 3, "its right operand is three back");
+    expect(penne_part(PENNE_PARSE_NODE_BINARY, 3) == 0, "and it has no fourth part");
+    expect(penne_part(PENNE_PARSE_NODE_LIST_ITEM, 1) == PENNE_PART_LINKED, "the next item is linked");
+    expect(penne_part(255, 0) == 0 && penne_part(0, 255) == 0, "nothing is outside of the table");
+}
+
 int main(void)
 {
     a_sum();
     a_refusal();
     declarations();
     a_short_reply();
+    parts();
     return failed;
 }
