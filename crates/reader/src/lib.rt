@@ -4,7 +4,7 @@
 ghost use mathlib.Core.Path.{_≡_};
 ghost use Prim.Native.Nat.{_+_, _≤_};
 ghost use Rattle.rules.specs.Codes.Limit as Most;
-ghost use Rattle.codes.specs.Answer.{Quiet};
+ghost use Rattle.codes.specs.Words.{Quiet};
 ghost use Rattle.tokens.specs.Answer.{kindIn, consumed, Taking};
 ghost use Rattle.reader.specs.Answer.{kindsOf, place, ending, Looks, Takes, Tries, Expects, Consumes};
 use codes::BaseToken;
