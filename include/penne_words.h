@@ -6,8 +6,8 @@
  *
  *     cc -Iinclude program.c target/staticlib/libpenne_words_c.a
  *
- * A word has the node's kind in its low 8 bits and its load in the upper 24. If columns and words agree before the same
- * call, node by node, the replies are equal and they agree after it, also where the call is refused.
+ * A word has the node's kind in its low 8 bits and its load in the upper 24. Given the same nodes, one entry with columns
+ * and with words gives the same reply and leaves the same nodes in all slots, whether it accepts or refuses.
  */
 #ifndef PENNE_WORDS_H
 #define PENNE_WORDS_H
@@ -57,7 +57,7 @@ bool penne_words_parse_word_declaration(const uint8_t *kinds, size_t n, const ui
  */
 bool penne_pack(uint8_t kind, uint32_t load, uint32_t *reply, size_t k);
 
-/* What a word holds. Every word is the packing of its kind and load. */
+/* What a word holds. Packed again, it is the same word. */
 uint8_t penne_unpack_kind(uint32_t word);
 uint32_t penne_unpack_load(uint32_t word);
 

@@ -10,8 +10,12 @@ use penne_parser::{
     BaseToken, MAX_SLOTS, Nodes, RefusalNumber, Row, Slots, TokenId, Tokens, parse_expression,
 };
 
-/// How many questions are asked by each entry.
-const QUESTIONS: u32 = 100_000;
+/// How many questions are asked by each entry: ten million by all five where the code is optimized.
+const QUESTIONS: u32 = if cfg!(debug_assertions) {
+    100_000
+} else {
+    2_000_000
+};
 
 /// A question: all that an entry is given but for the nodes.
 struct Question<'a> {

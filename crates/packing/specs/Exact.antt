@@ -11,7 +11,7 @@ Undone =
     (kind load : ℕ) → kind < 256 → load ≤ Limit.Load →
     (word : ℕ) × (packing kind load ≡ Word word) × (unpacking word ≡ record { kind = kind; load = load })
 
--- every word of 32 bits is the packing of what it unpacks to
+-- a word of 32 bits that is unpacked and packed again is the same word
 abbrev pub Whole : Type 0
 Whole =
     (word : ℕ) → word < 4294967296 → packing (unpacking word .kind) (unpacking word .load) ≡ Word word

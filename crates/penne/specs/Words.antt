@@ -1,5 +1,5 @@
 -- What each public entry with a word a node promises, for every input: what the entry with columns promises, of the
--- columns that the words unpack to. Every word is the packing of what it unpacks to (rules, Words: Exact).
+-- columns that the words unpack to. Unpacking loses nothing of a word (rules, Words: Exact).
 use Prim.Native.Nat.{ℕ}
 use mathlib.Core.Path.{_≡_}
 use mathlib.Core.List.{List, map}

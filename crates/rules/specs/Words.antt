@@ -57,7 +57,7 @@ pushEndOfList = Lists.pushEndOfList append patch
 abbrev pub words : Builder
 words = Lists.builder append patch
 
--- Packing is undone exactly, and every word is the packing of what it unpacks to.
+-- Packing and unpacking undo each other: a kind, a load and a word come back as they were.
 pub record Exact : Type 0 where
   pub kind : (k l : ℕ) → k < 256 → wordKind (packed k l) ≡ k
   pub load : (k l : ℕ) → k < 256 → wordLoad (packed k l) ≡ l
