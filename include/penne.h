@@ -16,7 +16,7 @@
  * number is the load. penne_part gives them; rust/examples/c/tree.c is a program that walks and prints a tree.
  *
  * The library allocates nothing, keeps nothing between calls and needs no other library, not even that of C. It reads
- * and writes only what it is lent, and uses less than 88 KiB of stack. Calls in several threads are fine as long as
+ * and writes only what it is lent, and uses less than 70 KiB of stack. Calls in several threads are fine as long as
  * they do not write to the same memory.
  */
 #ifndef PENNE_H
@@ -282,7 +282,9 @@ enum penne_refusal {
     PENNE_REFUSAL_NO_SLOT = 33,
     PENNE_REFUSAL_NESTING_EXCEEDED = 34,
     PENNE_REFUSAL_BAD_FLAGS = 35,
-    PENNE_REFUSAL_BAD_WORD_KIND = 36
+    PENNE_REFUSAL_BAD_WORD_KIND = 36,
+    /* of packing: penne_words.h */
+    PENNE_REFUSAL_LOAD_TOO_LARGE = 56
 };
 /*
  * The five entries. All are given

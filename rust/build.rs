@@ -1,4 +1,5 @@
-//! Links the static library libpenne_c.a, which `rt staticlib penne_c` makes.
+//! Links the static library libpenne_c.a, which `rt staticlib penne_c` makes, and for the feature
+//! `words` libpenne_words_c.a, which `rt staticlib penne_words_c` makes.
 
 use std::env;
 use std::path::{Path, PathBuf};
@@ -8,6 +9,9 @@ use std::process::exit;
 const FOLDER: &str = "PENNE_C_LIB_DIR";
 
 const LIBRARY: &str = "libpenne_c.a";
+
+/// That of the feature `words`.
+const WORDS_LIBRARY: &str = "libpenne_words_c.a";
 
 fn main() {
     println!("cargo::rerun-if-env-changed={FOLDER}");
@@ -27,8 +31,25 @@ fn main() {
     }
     println!("cargo::rustc-link-search=native={}", folder.display());
     println!("cargo::rustc-link-lib=static=penne_c");
-    // The tests ask for the library by this name.
+    if env::var_os("CARGO_FEATURE_WORDS").is_some() {
+        words(&folder);
+    }
+    // The tests ask for the libraries by names like this.
     println!("cargo::rustc-env=PENNE_C_LIB={}", library.display());
+}
+
+/// Links the library of the entries with words.
+fn words(folder: &Path) {
+    let library = folder.join(WORDS_LIBRARY);
+    println!("cargo::rerun-if-changed={}", library.display());
+    if !library.is_file() {
+        stop(&format!(
+            "There is no {}. Run `rt staticlib penne_words_c` in the folder above rust/.",
+            library.display()
+        ));
+    }
+    println!("cargo::rustc-link-lib=static=penne_words_c");
+    println!("cargo::rustc-env=PENNE_WORDS_C_LIB={}", library.display());
 }
 
 fn folder() -> PathBuf {

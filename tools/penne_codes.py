@@ -230,6 +230,7 @@ REFUSALS = {
     34: ("NestingExceeded", "An expression or inner type begins at token {start}, and 200 are already open."),
     35: ("BadFlags", "The declaration flags are above 31."),
     36: ("BadWordKind", "The kind given for a word declaration is not one of word8 to word128."),
+    56: ("LoadTooLarge", "The load does not fit the 24 bits that a word has for it."),
 }
 
 # The limits of the program penne-nodes: tokens of its input, and slots for its nodes.

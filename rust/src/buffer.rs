@@ -2,10 +2,7 @@
 
 use alloc::vec::Vec;
 
-use crate::{MAX_SLOTS, NodeId, NodesRef, ParseNode, Parts, Row, Slots};
-
-/// So many nodes are appended for a token at most: a lone name takes them.
-const NODES_A_TOKEN: usize = 5;
+use crate::{MAX_SLOTS, NODES_A_TOKEN, NodeId, NodesRef, ParseNode, Parts, Row, Slots};
 
 impl<'a> From<&'a mut Nodes> for Slots<'a> {
     fn from(nodes: &'a mut Nodes) -> Slots<'a> {

@@ -48,7 +48,7 @@
 //!
 //! An entry allocates nothing. It reads the row and writes the slots that it was lent, and has no
 //! buffer besides; nor does it keep anything from one call to the next. The stack that it uses is
-//! bounded, since at most 200 expressions and inner types may be open at once: it is less than 88
+//! bounded, since at most 200 expressions and inner types may be open at once: it is less than 70
 //! KiB. Only [`Tokens`], [`Nodes`], [`Walk`] and [`Drawing`] allocate.
 //!
 //! The package is `no_std`. Without the feature `alloc`, which is on by default, these four are not
@@ -81,6 +81,8 @@ mod row;
 mod tokens;
 #[cfg(feature = "alloc")]
 mod walk;
+#[cfg(feature = "words")]
+pub mod words;
 
 #[cfg(feature = "alloc")]
 pub use buffer::Nodes;
@@ -88,7 +90,7 @@ pub use codes::{BaseToken, BinaryOp, ComparisonOp, DeclarationFlag, UnaryOp, Val
 pub use flags::DeclarationFlags;
 pub use ids::{NodeId, TokenId};
 pub use named::Items;
-pub use nodes::{MAX_SLOTS, NodesRef, Parts, Slots};
+pub use nodes::{MAX_SLOTS, NodesRef, Parts, Slots, unpack};
 pub use parse_node::ParseNode;
 pub use refusal::{Refusal, RefusalNumber};
 pub use row::{MAX_TOKENS, Row};
@@ -100,6 +102,10 @@ pub use walk::{Drawing, Walk};
 use core::ops::Range;
 
 use raw::Entry;
+
+/// So many nodes are appended for a token at most: a lone name takes them.
+#[cfg(feature = "alloc")]
+const NODES_A_TOKEN: usize = 5;
 
 /// What an accepted parse gives.
 ///
@@ -162,6 +168,11 @@ fn ask(
     };
     let done = raw::parse(entry, row, cursor, lent, &mut reply);
     assert!(done, "the reply has enough places");
+    read(reply, count)
+}
+
+/// A reply by its places; the count of the slots becomes that of the reply.
+fn read(reply: [u32; raw::PLACES], count: &mut u32) -> Result<Parsed, Refusal> {
     let [case, a, b, c, d, e] = reply;
     if case == raw::ACCEPTED {
         *count = c;

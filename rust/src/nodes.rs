@@ -39,7 +39,7 @@ pub struct Slots<'a> {
     pub count: &'a mut u32,
 }
 
-/// Nodes that are lent for reading, from a [`Nodes`](crate::Nodes) or from two columns.
+/// Nodes that are lent for reading, from a [`Nodes`](crate::Nodes), from two columns, or from words.
 ///
 /// ```
 /// use penne_parser::BaseToken::{Minus, NakedDecimal, Plus};
@@ -74,47 +74,65 @@ pub struct Slots<'a> {
 /// assert_eq!(value(nodes.view(), parsed.root, &[7, 0, 5, 0, 2]), Some(10));
 /// # Ok::<(), penne_parser::Refusal>(())
 /// ```
-#[derive(Clone, Copy, Debug, PartialEq, Eq)]
+#[derive(Clone, Copy, Debug)]
 pub struct NodesRef<'a> {
-    kinds: &'a [u8],
-    loads: &'a [u32],
+    store: Store<'a>,
+}
+
+/// Where nodes are kept.
+#[derive(Clone, Copy, Debug)]
+enum Store<'a> {
+    /// In two columns, as long as each other.
+    Columns { kinds: &'a [u8], loads: &'a [u32] },
+    /// In words, each with the kind in its low 8 bits and the load above.
+    Words(&'a [u32]),
 }
 
 impl<'a> NodesRef<'a> {
     /// The nodes in these columns. If one is longer, the rest of it is left out.
     pub fn new(kinds: &'a [u8], loads: &'a [u32]) -> NodesRef<'a> {
         let count = kinds.len().min(loads.len());
-        NodesRef {
+        let store = Store::Columns {
             kinds: &kinds[..count],
             loads: &loads[..count],
+        };
+        NodesRef { store }
+    }
+
+    /// The nodes in these words.
+    pub fn of_words(words: &'a [u32]) -> NodesRef<'a> {
+        NodesRef {
+            store: Store::Words(words),
         }
     }
 
-    /// The kinds of the nodes.
-    pub fn kinds(&self) -> &'a [u8] {
-        self.kinds
-    }
-
-    /// The loads of the nodes.
-    pub fn loads(&self) -> &'a [u32] {
-        self.loads
+    /// The kind and the load of a node, as they are stored.
+    pub fn kind_and_load(&self, node: NodeId) -> Option<(u8, u32)> {
+        let place = usize::from(node);
+        match self.store {
+            Store::Columns { kinds, loads } => Some((*kinds.get(place)?, *loads.get(place)?)),
+            Store::Words(words) => words.get(place).copied().map(unpack),
+        }
     }
 
     /// How many nodes there are.
     pub fn len(&self) -> usize {
-        self.kinds.len()
+        match self.store {
+            Store::Columns { kinds, .. } => kinds.len(),
+            Store::Words(words) => words.len(),
+        }
     }
 
     /// Whether there is no node.
     pub fn is_empty(&self) -> bool {
-        self.kinds.is_empty()
+        self.len() == 0
     }
 
     /// The node with this number. None if there is none, or if its kind and load are not those of a
     /// node.
     pub fn get(&self, node: NodeId) -> Option<ParseNode> {
-        let place = usize::from(node);
-        ParseNode::from_columns(*self.kinds.get(place)?, *self.loads.get(place)?)
+        let (kind, load) = self.kind_and_load(node)?;
+        ParseNode::from_columns(kind, load)
     }
 
     /// The parts of a node, in their order. A node that is not there has none.
@@ -122,8 +140,7 @@ impl<'a> NodesRef<'a> {
     /// From the root of an accepted parse each of its nodes is reached by exactly one way of steps
     /// to parts. In other columns a part may have a number that no node has.
     pub fn parts(&self, node: NodeId) -> Parts {
-        let place = usize::from(node);
-        let (Some(&kind), Some(&load)) = (self.kinds.get(place), self.loads.get(place)) else {
+        let Some((kind, load)) = self.kind_and_load(node) else {
             return Parts::default();
         };
         // In columns that no parse wrote a part could lie before the first node: there the parts
@@ -157,10 +174,11 @@ impl<'a> NodesRef<'a> {
     /// # Ok::<(), penne_parser::Refusal>(())
     /// ```
     pub fn iter(&self) -> impl Iterator<Item = (NodeId, Option<ParseNode>)> + use<'a> {
-        let columns = self.kinds.iter().zip(self.loads);
+        let nodes = *self;
         (0..)
             .map(NodeId)
-            .zip(columns.map(|(&kind, &load)| ParseNode::from_columns(kind, load)))
+            .take(nodes.len())
+            .map(move |node| (node, nodes.get(node)))
     }
 }
 
@@ -198,3 +216,19 @@ impl Iterator for Parts {
 impl ExactSizeIterator for Parts {}
 
 impl FusedIterator for Parts {}
+
+/// Two views are equal if they have the same kinds and loads, however these are stored.
+impl PartialEq for NodesRef<'_> {
+    fn eq(&self, other: &NodesRef<'_>) -> bool {
+        let same = |node| self.kind_and_load(node) == other.kind_and_load(node);
+        self.len() == other.len() && (0..).take(self.len()).map(NodeId).all(same)
+    }
+}
+
+impl Eq for NodesRef<'_> {}
+
+/// The kind and the load that a word holds. Every word holds some.
+pub fn unpack(word: u32) -> (u8, u32) {
+    let [kind, ..] = word.to_le_bytes();
+    (kind, word >> 8)
+}

@@ -79,6 +79,8 @@ refusal_numbers! {
         BadFlags = 35,
         /// The declaring token of a word is not `word8` to `word128`.
         BadWordKind = 36,
+        /// A load does not fit a word.
+        LoadTooLarge = 56,
     }
 }
 
@@ -127,6 +129,7 @@ impl RefusalNumber {
             BadCount => "The node count is above the number of slots.",
             BadFlags => "The declaration flags are above 31.",
             BadWordKind => "The kind given for a word declaration is not one of word8 to word128.",
+            LoadTooLarge => "The load does not fit the 24 bits that a word has for it.",
             _ => return None,
         })
     }

@@ -8,7 +8,7 @@ use core::iter::FusedIterator;
 use crate::{NodeId, NodesRef};
 
 impl<'a> NodesRef<'a> {
-    /// The nodes of a tree: the root, then the trees of its parts in their order. Each comes with how
+    /// The nodes of a tree: the root, then below it each part with its own tree, in turn. Each comes with how
     /// far it is below the root.
     ///
     /// ```

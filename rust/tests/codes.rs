@@ -96,7 +96,7 @@ fn codes_are_read_back() {
             (code < 15).then_some(code)
         );
         let refusal = RefusalNumber::from_repr(code);
-        let known = matches!(code, 1..=3 | 10..=25 | 30..=36);
+        let known = matches!(code, 1..=3 | 10..=25 | 30..=36 | 56);
         assert_eq!(refusal.map(|refusal| refusal as u8), known.then_some(code));
     }
 }

@@ -6,7 +6,15 @@ use std::process::Command;
 
 const STRICT: [&str; 5] = ["-Wall", "-Wextra", "-Werror", "-pedantic", "-std=c99"];
 
-/// Compiles a program, runs it, and gives what it wrote. The program's file is removed.
+/// The libraries as build.rs names them.
+const LIBRARIES: &[&str] = &[
+    env!("PENNE_C_LIB"),
+    #[cfg(feature = "words")]
+    env!("PENNE_WORDS_C_LIB"),
+];
+
+/// Compiles a program with the libraries, runs it, and gives what it wrote. The program's file is
+/// removed.
 fn run(source: &str) -> String {
     let package = Path::new(env!("CARGO_MANIFEST_DIR"));
     let name = Path::new(source).file_stem().expect("a name");
@@ -16,7 +24,7 @@ fn run(source: &str) -> String {
         .arg("-I")
         .arg(package.with_file_name("include"))
         .arg(package.join(source))
-        .arg(env!("PENNE_C_LIB"))
+        .args(LIBRARIES)
         .arg("-o")
         .arg(&program)
         .output()
@@ -54,4 +62,10 @@ fn a_tree_is_printed() {
       6: kind 27, load 5
 ";
     assert_eq!(run("examples/c/tree.c"), tree);
+}
+
+#[test]
+#[cfg(feature = "words")]
+fn the_entries_with_words() {
+    assert_eq!(run("tests/c/words.c"), "");
 }

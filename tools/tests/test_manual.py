@@ -110,7 +110,8 @@ class Examples(unittest.TestCase):
         return penne_library.text(*self.library.ask(question))
 
     def test_a_row_for_each_refusal(self):
-        for table in tables("Refusals"):
+        of_the_input, of_the_parse, _ = tables("Refusals")
+        for table in [of_the_input, of_the_parse]:
             for number, *_, row, reply in table:
                 first = self.answer(questions.read(row.strip("`"))).split("\n")[0]
                 self.assertEqual(f"`{first}`", reply)

@@ -17,7 +17,7 @@ use contract.Monad.{fact}
 use types.Kit.{Given, Item, Goal, Post, Seq, Step, step, runs, nth, put, ‵, _$_, move, fsplit, feqL}
 use types.Part.{agg, whole, sub, look-in}
 use types.Run.{look, init, stop, hop, fld, load, addr, and-then, no-more, assigns}
-use denote.Builtin.{u8, u32}
+use denote.Builtin.{u32}
 use denote.Exit.{yes}
 use denote.Ref.{RefT, now}
 use denote.Signature.{plain, mutRefTo, mutSliceOf}
@@ -50,65 +50,63 @@ buffer = record {
 abbrev pub B : Plain
 B = struct P.the-type P′.the-laws P′.the-plain P′.the-copy
 
--- the machine value of a column
+-- the machine value of the words
 abbrev pub column : RefT (List ℕ) → Val
 column x = sliceVal (x .ptr) (length (x .now))
 
 abbrev pub cursor : Plain
 cursor = struct I.the-type I′.the-laws I′.the-plain I′.the-copy
 
--- What two functions over the record and the columns differ in, beside the parameters X behind the cursor: what they
--- answer, the struct of the answer and the record, what they ask of the record and the columns, and what they promise of
--- these before and after.
+-- What two functions over the record and the words differ in, beside the parameters X behind the cursor: what they
+-- answer, the struct of the answer and the record, what they ask of the record, the words and X, and what they promise
+-- of the record and the words before and after.
 pub record Way (X : Extra) : Type 2 where
   pub answer : Plain
   pub step : Pair answer B
-  pub Asks : ParseBuffer → List ℕ → List ℕ → Type 0
-  pub Gives : TokenId → ParseBuffer → List ℕ → List ℕ → Values X → answer .row .Denot → ParseBuffer → List ℕ → List ℕ →
-      Type 0
+  pub Asks : ParseBuffer → List ℕ → Values X → Type 0
+  pub Gives : TokenId → ParseBuffer → List ℕ → Values X → answer .row .Denot → ParseBuffer → List ℕ → Type 0
 
 module _ (X : Extra) (Y : Way X) where
   -- the record by value
   abbrev pub passed : Ended
   passed = record {
     signature = record {
-      lifetimes = 2;
+      lifetimes = 1;
       outlives = [];
-      params = mutSliceOf (0 ∷ []) tt (plain (λ _. u8)) ∷ mutSliceOf (1 ∷ []) tt (plain (λ _. u32)) ∷ plain
-          (λ _. I.the-row) ∷ plain (λ _. P.the-row) ∷ slots 2 X;
+      params = mutSliceOf (0 ∷ []) tt (plain (λ _. u32)) ∷ plain (λ _. I.the-row) ∷ plain (λ _. P.the-row) ∷ slots 1 X;
       result = plain (λ _. Y .step .row);
     };
-    kept = (yes, (yes, (yes, (yes, kepts 2 X))));
+    kept = (yes, (yes, (yes, kepts 1 X)));
   }
 
   -- and lent
   abbrev pub lent : Ended
   lent = record {
     signature = record {
-      lifetimes = 3;
+      lifetimes = 2;
       outlives = [];
-      params = mutRefTo (0 ∷ []) tt (plain (λ _. P.the-row)) ∷ mutSliceOf (1 ∷ []) tt (plain (λ _. u8)) ∷ mutSliceOf
-          (2 ∷ []) tt (plain (λ _. u32)) ∷ plain (λ _. I.the-row) ∷ slots 3 X;
+      params = mutRefTo (0 ∷ []) tt (plain (λ _. P.the-row)) ∷ mutSliceOf (1 ∷ []) tt (plain (λ _. u32)) ∷ plain
+          (λ _. I.the-row) ∷ slots 2 X;
       result = plain (λ _. Y .answer .row);
     };
-    kept = (yes, (yes, (yes, (yes, kepts 3 X))));
+    kept = (yes, (yes, (yes, kepts 2 X)));
   }
 
   module _ {M : Type 1} (𝓤 : URA M) where
     abbrev pub passed-clauses : Clauses 𝓤 passed
     passed-clauses κs a = record {
       ghost = Unit {0};
-      requires = λ _. fact 𝓤 (Y .Asks (a .1 .1 .1 .0) (now (a .0)) (now (a .1 .0)));
-      ensures = λ _ s e. fact 𝓤 (Y .Gives (a .1 .1 .0) (a .1 .1 .1 .0) (now (a .0)) (now (a .1 .0)) (out 2 κs X (a .1 .1
-          .1 .1)) (Y .step .fst s) (Y .step .snd s) (now (e .0)) (now (e .1 .0)));
+      requires = λ _. fact 𝓤 (Y .Asks (a .1 .1 .0) (now (a .0)) (out 1 κs X (a .1 .1 .1)));
+      ensures = λ _ s e. fact 𝓤 (Y .Gives (a .1 .0) (a .1 .1 .0) (now (a .0)) (out 1 κs X (a .1 .1 .1)) (Y .step .fst s)
+          (Y .step .snd s) (now (e .0)));
     }
 
     abbrev pub lent-clauses : Clauses 𝓤 lent
     lent-clauses κs a = record {
       ghost = Unit {0};
-      requires = λ _. fact 𝓤 (Y .Asks (now (a .0)) (now (a .1 .0)) (now (a .1 .1 .0)));
-      ensures = λ _ r e. fact 𝓤 (Y .Gives (a .1 .1 .1 .0) (now (a .0)) (now (a .1 .0)) (now (a .1 .1 .0)) (out 3 κs X
-          (a .1 .1 .1 .1)) r (now (e .0)) (now (e .1 .0)) (now (e .1 .1 .0)));
+      requires = λ _. fact 𝓤 (Y .Asks (now (a .0)) (now (a .1 .0)) (out 2 κs X (a .1 .1 .1)));
+      ensures = λ _ r e. fact 𝓤 (Y .Gives (a .1 .1 .0) (now (a .0)) (now (a .1 .0)) (out 2 κs X (a .1 .1 .1)) r
+          (now (e .0)) (now (e .1 .0)));
     }
 
     module _ (H : Heap 𝓤) (A : Atoms 𝓤) where
@@ -119,8 +117,8 @@ module _ (X : Extra) (Y : Way X) where
       Lent = tripleOf 𝓤 H A (lent .signature) (closing 𝓤 H A lent lent-clauses)
 
 module _ {M : Type 1} {𝓤 : URA M} {H : Heap 𝓤} {A : Atoms 𝓤} {K : Type 0} {W : Given 𝓤 H A} {Γ : List (Item 𝓤)} where
-  -- A column in the local s is lent again: its pointer goes to the local a, and the column made of that to the local b.
-  -- They are entries i, j and k of the context.
+  -- The words in the local s are lent again: their pointer goes to the local a, and the slice made of that to the local
+  -- b. The locals are entries i, j and k of the context.
   pub relends :
       K → (x : RefT (List ℕ)) (i j k : ℕ) {C : Calls 𝓤 H} {Λ : Loops 𝓤 H} {q : Post 𝓤 H} {E : Env 𝓤 H} {rest : Code}
       {s a b l m n : ℕ} {ℓ : Lifetime} {τ : Ty} → spotOf 𝓤 H E s ≡ (sliceTy (tyRef ℓ mut τ), l, 0) →
@@ -144,11 +142,8 @@ module _ {M : Type 1} {𝓤 : URA M} {H : Heap 𝓤} {A : Atoms 𝓤} {K : Type 
       (fld t refl (stop t))) (look-in t i (found n₃ (sub t 1 refl (whole t))))) (no-more t)))) (within t e (stop t))
       (init t k n₅ typed) $ z)
 
-  -- what is said of the two columns at a callee's exit, and behind it what is said of the other parameters
+  -- what is said of the words at a callee's exit, and behind it what is said of the other parameters
   pub lasting :
-      K → {G : Goal 𝓤 H} {P Q R : Fml} {k l m n : ℕ} →
-      (k ≡ l → m ≡ n → Seq K W (‵ Q ∷ ‵ R ∷ ‵ P ∷ Γ) G) →
-      Seq K W (‵ (fsep (fsep P (feq ℕ k l)) (fsep (fsep Q (feq ℕ m n)) R)) ∷ Γ) G
-  lasting t f =
-      fsplit t $ fsplit t $ move t (1 ∷ []) $ feqL t (λ e. move t (1 ∷ []) $ fsplit t $ fsplit t $ move t (1 ∷ []) $
-      feqL t (λ e′. f e e′))
+      K → {G : Goal 𝓤 H} {P Q : Fml} {k l : ℕ} → (k ≡ l → Seq K W (‵ P ∷ ‵ Q ∷ Γ) G) →
+      Seq K W (‵ (fsep (fsep P (feq ℕ k l)) Q) ∷ Γ) G
+  lasting t f = fsplit t $ fsplit t $ move t (1 ∷ []) $ feqL t (λ e. f e)

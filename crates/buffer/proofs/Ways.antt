@@ -1,6 +1,7 @@
 -- append and patch, and the functions with the record by value, as `Held.antt` has what they differ in.
 use Prim.Native.Nat.{_≤_}
 use mir.Syntax.{w8, w32}
+use Rattle.rules.specs.Codes.Limit as Most
 use Rattle.walks.proofs.Extra.{none, two}
 use Rattle.walks.proofs.Plain.{Plain, Pair, number, struct, enum}
 use denote.Struct.Laws as LL
@@ -57,14 +58,14 @@ abbrev pub appending : Way (two (number w8) (number w32))
 appending = record {
   answer = parsed;
   step = appended;
-  Asks = λ b ks ls. Slots ks ls (b .count);
-  Gives = λ c b ks ls x r b′ ks′ ls′. Appends (c .0) b ks ls (x .0) (x .1) r b′ ks′ ls′;
+  Asks = λ b ws x. Slots ws (b .count) × (x .1 ≤ Most.Load);
+  Gives = λ c b ws x r b′ ws′. Appends (c .0) b ws (x .0) (x .1) r b′ ws′;
 }
 
 abbrev pub patching : Way none
 patching = record {
   answer = listed;
   step = patched;
-  Asks = λ b ks ls. Slots ks ls (b .count) × (past (b .list) ≤ b .count);
-  Gives = λ c b ks ls x r b′ ks′ ls′. Patches (c .0) b ks ls r b′ ks′ ls′;
+  Asks = λ b ws x. Slots ws (b .count) × (past (b .list) ≤ b .count);
+  Gives = λ c b ws x r b′ ws′. Patches (c .0) b ws r b′ ws′;
 }

@@ -3,6 +3,7 @@
 // caller that has the record by value uses the functions at the end.
 ghost use mathlib.Core.Path.{_≡_};
 ghost use Prim.Native.Nat.{_≤_};
+ghost use Rattle.rules.specs.Codes.Limit as Most;
 ghost use Rattle.nodes.specs.Answer.{Slots, past};
 ghost use Rattle.buffer.specs.Answer.{counted, relisted, Appends, Patches};
 use codes::Parsed;
@@ -41,10 +42,10 @@ fn after_push(buffer: ParseBuffer, reply: Parsed) -> ParseBuffer
         } => ParseBuffer { count, list },
         Parsed::Refused {
             number: _,
-            start: _,
-            end: _,
             cursor: _,
             count: _,
+            start: _,
+            end: _,
         } => buffer,
     }
 }
@@ -65,18 +66,17 @@ fn after_item(buffer: ParseBuffer, reply: Listed) -> ParseBuffer
 
 // A node is appended, with the record by value.
 fn push(
-    node_kinds: &mut [u8],
-    node_loads: &mut [u32],
+    node_words: &mut [u32],
     cursor: TokenId,
     buffer: ParseBuffer,
     kind: u8,
     load: u32,
 ) -> Appended
-    requires { ⌜ Slots (now «node_kinds») (now «node_loads») (buffer .count) ⌝ }
-    ensures { λ r. ⌜ Appends (cursor .0) buffer (now («node_kinds» .entry)) (now («node_loads» .entry)) kind
-        load (r .reply) (r .buffer) (now («node_kinds» .exit)) (now («node_loads» .exit)) ⌝ }
+    requires { ⌜ Slots (now «node_words») (buffer .count) × (load ≤ Most.Load) ⌝ }
+    ensures { λ r. ⌜ Appends (cursor .0) buffer (now («node_words» .entry)) kind load (r .reply)
+        (r .buffer) (now («node_words» .exit)) ⌝ }
 {
-    let reply = nodes::push(node_kinds, node_loads, cursor, buffer.count, kind, load);
+    let reply = nodes::push(node_words, cursor, buffer.count, kind, load);
     let after = after_push(buffer, reply);
     Appended {
         reply,
@@ -85,18 +85,13 @@ fn push(
 }
 
 // An item is appended after its content, unfinished, and the one before it is patched, with the record by value.
-fn push_item(
-    node_kinds: &mut [u8],
-    node_loads: &mut [u32],
-    cursor: TokenId,
-    buffer: ParseBuffer,
-) -> Patched
-    requires { ⌜ Slots (now «node_kinds») (now «node_loads») (buffer .count) × (past (buffer .list) ≤ buffer .count) ⌝ }
-    ensures { λ r. ⌜ Patches (cursor .0) buffer (now («node_kinds» .entry)) (now («node_loads» .entry)) (r .reply)
-        (r .buffer) (now («node_kinds» .exit)) (now («node_loads» .exit)) ⌝ }
+fn push_item(node_words: &mut [u32], cursor: TokenId, buffer: ParseBuffer) -> Patched
+    requires { ⌜ Slots (now «node_words») (buffer .count) × (past (buffer .list) ≤ buffer .count) ⌝ }
+    ensures { λ r. ⌜ Patches (cursor .0) buffer (now («node_words» .entry)) (r .reply) (r .buffer)
+        (now («node_words» .exit)) ⌝ }
 {
     let open = buffer.list;
-    let reply = nodes::push_list_item(node_kinds, node_loads, cursor, buffer.count, open);
+    let reply = nodes::push_list_item(node_words, cursor, buffer.count, open);
     let after = after_item(buffer, reply);
     Patched {
         reply,
@@ -107,53 +102,45 @@ fn push_item(
 // A node is appended.
 pub fn append(
     buffer: &mut ParseBuffer,
-    node_kinds: &mut [u8],
-    node_loads: &mut [u32],
+    node_words: &mut [u32],
     cursor: TokenId,
     kind: u8,
     load: u32,
 ) -> Parsed
-    requires { ⌜ Slots (now «node_kinds») (now «node_loads») (now buffer .count) ⌝ }
-    ensures { λ r. ⌜ Appends (cursor .0) (now (buffer .entry)) (now («node_kinds» .entry)) (now («node_loads» .entry))
-        kind load r (now (buffer .exit)) (now («node_kinds» .exit)) (now («node_loads» .exit)) ⌝ }
+    requires { ⌜ Slots (now «node_words») (now buffer .count) × (load ≤ Most.Load) ⌝ }
+    ensures { λ r. ⌜ Appends (cursor .0) (now (buffer .entry)) (now («node_words» .entry)) kind load r
+        (now (buffer .exit)) (now («node_words» .exit)) ⌝ }
 {
-    let appended = push(node_kinds, node_loads, cursor, *buffer, kind, load);
+    let appended = push(node_words, cursor, *buffer, kind, load);
     *buffer = appended.buffer;
     appended.reply
 }
 
 // An item is appended after its content, unfinished, and the one before it is patched.
-pub fn patch(
-    buffer: &mut ParseBuffer,
-    node_kinds: &mut [u8],
-    node_loads: &mut [u32],
-    cursor: TokenId,
-) -> Listed
-    requires { ⌜ Slots (now «node_kinds») (now «node_loads») (now buffer .count)
-        × (past (now buffer .list) ≤ now buffer .count) ⌝ }
-    ensures { λ r. ⌜ Patches (cursor .0) (now (buffer .entry)) (now («node_kinds» .entry)) (now («node_loads» .entry))
-        r (now (buffer .exit)) (now («node_kinds» .exit)) (now («node_loads» .exit)) ⌝ }
+pub fn patch(buffer: &mut ParseBuffer, node_words: &mut [u32], cursor: TokenId) -> Listed
+    requires { ⌜ Slots (now «node_words») (now buffer .count) × (past (now buffer .list) ≤ now buffer .count) ⌝ }
+    ensures { λ r. ⌜ Patches (cursor .0) (now (buffer .entry)) (now («node_words» .entry)) r (now (buffer .exit))
+        (now («node_words» .exit)) ⌝ }
 {
-    let patched = push_item(node_kinds, node_loads, cursor, *buffer);
+    let patched = push_item(node_words, cursor, *buffer);
     *buffer = patched.buffer;
     patched.reply
 }
 
 // A node is appended with a record that is passed and returned by value.
 pub fn append_to(
-    node_kinds: &mut [u8],
-    node_loads: &mut [u32],
+    node_words: &mut [u32],
     cursor: TokenId,
     buffer: ParseBuffer,
     kind: u8,
     load: u32,
 ) -> Appended
-    requires { ⌜ Slots (now «node_kinds») (now «node_loads») (buffer .count) ⌝ }
-    ensures { λ r. ⌜ Appends (cursor .0) buffer (now («node_kinds» .entry)) (now («node_loads» .entry))
-        kind load (r .reply) (r .buffer) (now («node_kinds» .exit)) (now («node_loads» .exit)) ⌝ }
+    requires { ⌜ Slots (now «node_words») (buffer .count) × (load ≤ Most.Load) ⌝ }
+    ensures { λ r. ⌜ Appends (cursor .0) buffer (now («node_words» .entry))
+        kind load (r .reply) (r .buffer) (now («node_words» .exit)) ⌝ }
 {
     let mut lent = buffer;
-    let reply = append(&mut lent, node_kinds, node_loads, cursor, kind, load);
+    let reply = append(&mut lent, node_words, cursor, kind, load);
     Appended {
         reply,
         buffer: lent,
@@ -161,18 +148,13 @@ pub fn append_to(
 }
 
 // An item is appended and the one before it patched, likewise.
-pub fn patch_in(
-    node_kinds: &mut [u8],
-    node_loads: &mut [u32],
-    cursor: TokenId,
-    buffer: ParseBuffer,
-) -> Patched
-    requires { ⌜ Slots (now «node_kinds») (now «node_loads») (buffer .count) × (past (buffer .list) ≤ buffer .count) ⌝ }
-    ensures { λ r. ⌜ Patches (cursor .0) buffer (now («node_kinds» .entry)) (now («node_loads» .entry))
-        (r .reply) (r .buffer) (now («node_kinds» .exit)) (now («node_loads» .exit)) ⌝ }
+pub fn patch_in(node_words: &mut [u32], cursor: TokenId, buffer: ParseBuffer) -> Patched
+    requires { ⌜ Slots (now «node_words») (buffer .count) × (past (buffer .list) ≤ buffer .count) ⌝ }
+    ensures { λ r. ⌜ Patches (cursor .0) buffer (now («node_words» .entry))
+        (r .reply) (r .buffer) (now («node_words» .exit)) ⌝ }
 {
     let mut lent = buffer;
-    let reply = patch(&mut lent, node_kinds, node_loads, cursor);
+    let reply = patch(&mut lent, node_words, cursor);
     Patched {
         reply,
         buffer: lent,

@@ -4,10 +4,11 @@ ghost use Prim.Native.Nat.{_+_, _≤_, _<_};
 ghost use lib.ListN.{length};
 ghost use Rattle.rules.specs.Codes.Limit as Most;
 ghost use Rattle.rules.specs.Reading.{loop};
-ghost use Rattle.rules.specs.Columns.{columns};
+ghost use Rattle.rules.specs.Words.{words};
 ghost use Rattle.rules.specs.Types.{type};
 ghost use Rattle.rules.specs.Expressions.{sizeOf, typeCast, coerced, singularEnd};
-ghost use Rattle.codes.specs.Answer.{Gives, Sized, row, nodes};
+ghost use Rattle.codes.specs.Answer.{row};
+ghost use Rattle.codes.specs.Words.{Gives, Sized, nodes};
 ghost use Rattle.nodes.specs.Answer.{Slots};
 ghost use Rattle.casts.specs.Answer.{Casting, bitCast};
 use codes::BaseToken;
@@ -43,17 +44,16 @@ pub fn optional_cast(kinds: &[u8], cursor: TokenId, bare: bool) -> Optional
 fn coerce(
     kinds: &[u8],
     types: &[u8],
-    node_kinds: &mut [u8],
-    node_loads: &mut [u32],
+    node_words: &mut [u32],
     cursor: TokenId,
     count: u32,
     unused: u32,
     expression: NodeId,
 ) -> Parsed
-    requires { ⌜ Sized (now kinds) (now types) (now «node_kinds») (now «node_loads») (cursor .0) count ⌝ }
-    ensures { λ r. ⌜ Gives (typeCast columns (row (now (kinds .entry)) (now (types .entry))) (type columns (row (now (kinds .entry)) (now (types .entry))) unused) (expression .0)) (cursor .0) (nodes (now («node_kinds» .entry)) (now («node_loads» .entry)) count) r (now («node_kinds» .exit)) (now («node_loads» .exit)) ⌝ }
+    requires { ⌜ Sized (now kinds) (now types) (now «node_words») (cursor .0) count × (expression .0 ≤ Most.Load) ⌝ }
+    ensures { λ r. ⌜ Gives (typeCast words (row (now (kinds .entry)) (now (types .entry))) (type words (row (now (kinds .entry)) (now (types .entry))) unused) (expression .0)) (cursor .0) (nodes (now («node_words» .entry)) count) r (now («node_words» .exit)) ⌝ }
 {
-    let coerced = parse_type(kinds, types, node_kinds, node_loads, cursor, count, unused);
+    let coerced = parse_type(kinds, types, node_words, cursor, count, unused);
     let Parsed::Node {
         root: _,
         cursor: after,
@@ -63,8 +63,7 @@ fn coerce(
         return coerced;
     };
     push_two(
-        node_kinds,
-        node_loads,
+        node_words,
         after,
         used,
         ParseNode::Item,
@@ -78,15 +77,14 @@ fn coerce(
 fn parse_casts(
     kinds: &[u8],
     types: &[u8],
-    node_kinds: &mut [u8],
-    node_loads: &mut [u32],
+    node_words: &mut [u32],
     cursor: TokenId,
     count: u32,
     unused: u32,
     expression: NodeId,
 ) -> Parsed
-    requires { ⌜ Sized (now kinds) (now types) (now «node_kinds») (now «node_loads») (cursor .0) count ⌝ }
-    ensures { λ r. ⌜ Gives (loop (row (now (kinds .entry)) (now (types .entry))) (coerced columns (row (now (kinds .entry)) (now (types .entry))) (type columns (row (now (kinds .entry)) (now (types .entry))) unused)) (expression .0)) (cursor .0) (nodes (now («node_kinds» .entry)) (now («node_loads» .entry)) count) r (now («node_kinds» .exit)) (now («node_loads» .exit)) ⌝ }
+    requires { ⌜ Sized (now kinds) (now types) (now «node_words») (cursor .0) count × (expression .0 ≤ Most.Load) ⌝ }
+    ensures { λ r. ⌜ Gives (loop (row (now (kinds .entry)) (now (types .entry))) (coerced words (row (now (kinds .entry)) (now (types .entry))) (type words (row (now (kinds .entry)) (now (types .entry))) unused)) (expression .0)) (cursor .0) (nodes (now («node_words» .entry)) count) r (now («node_words» .exit)) ⌝ }
 {
     let mut root = expression.0;
     let mut at = cursor.0;
@@ -101,16 +99,7 @@ fn parse_casts(
                 count: used,
             };
         }
-        let cast = coerce(
-            kinds,
-            types,
-            node_kinds,
-            node_loads,
-            start,
-            used,
-            unused,
-            NodeId(root),
-        );
+        let cast = coerce(kinds, types, node_words, start, used, unused, NodeId(root));
         let Parsed::Node {
             root: node,
             cursor: after,
@@ -127,26 +116,18 @@ fn parse_casts(
 
 // The node of a `cast`, if one stands at `at`.
 fn push_bit_cast(
-    node_kinds: &mut [u8],
-    node_loads: &mut [u32],
+    node_words: &mut [u32],
     cursor: TokenId,
     count: u32,
     root: NodeId,
     cast: bool,
     at: TokenId,
 ) -> Parsed
-    requires { ⌜ Slots (now «node_kinds») (now «node_loads») count ⌝ }
-    ensures { λ r. ⌜ Gives (bitCast cast (at .0) (root .0)) (cursor .0) (nodes (now («node_kinds» .entry)) (now («node_loads» .entry)) count) r (now («node_kinds» .exit)) (now («node_loads» .exit)) ⌝ }
+    requires { ⌜ Slots (now «node_words») count × (at .0 ≤ Most.Load) ⌝ }
+    ensures { λ r. ⌜ Gives (bitCast cast (at .0) (root .0)) (cursor .0) (nodes (now («node_words» .entry)) count) r (now («node_words» .exit)) ⌝ }
 {
     if cast {
-        push(
-            node_kinds,
-            node_loads,
-            cursor,
-            count,
-            ParseNode::BitCast,
-            at.0,
-        )
+        push(node_words, cursor, count, ParseNode::BitCast, at.0)
     } else {
         Parsed::Node {
             root,
@@ -160,8 +141,7 @@ fn push_bit_cast(
 pub fn finish_singular(
     kinds: &[u8],
     types: &[u8],
-    node_kinds: &mut [u8],
-    node_loads: &mut [u32],
+    node_words: &mut [u32],
     cursor: TokenId,
     count: u32,
     unused: u32,
@@ -169,10 +149,10 @@ pub fn finish_singular(
     cast: bool,
     at: TokenId,
 ) -> Parsed
-    requires { ⌜ Sized (now kinds) (now types) (now «node_kinds») (now «node_loads») (cursor .0) count ⌝ }
-    ensures { λ r. ⌜ Gives (singularEnd columns (row (now (kinds .entry)) (now (types .entry))) (type columns (row (now (kinds .entry)) (now (types .entry))) unused) cast (at .0) (expression .0)) (cursor .0) (nodes (now («node_kinds» .entry)) (now («node_loads» .entry)) count) r (now («node_kinds» .exit)) (now («node_loads» .exit)) ⌝ }
+    requires { ⌜ Sized (now kinds) (now types) (now «node_words») (cursor .0) count × (expression .0 ≤ Most.Load) × (at .0 ≤ Most.Load) ⌝ }
+    ensures { λ r. ⌜ Gives (singularEnd words (row (now (kinds .entry)) (now (types .entry))) (type words (row (now (kinds .entry)) (now (types .entry))) unused) cast (at .0) (expression .0)) (cursor .0) (nodes (now («node_words» .entry)) count) r (now («node_words» .exit)) ⌝ }
 {
-    let node = push_bit_cast(node_kinds, node_loads, cursor, count, expression, cast, at);
+    let node = push_bit_cast(node_words, cursor, count, expression, cast, at);
     let Parsed::Node {
         root,
         cursor: after,
@@ -184,34 +164,24 @@ pub fn finish_singular(
     if peek(kinds, after) != BaseToken::As {
         return node;
     }
-    parse_casts(
-        kinds,
-        types,
-        node_kinds,
-        node_loads,
-        after,
-        used,
-        unused,
-        root,
-    )
+    parse_casts(kinds, types, node_words, after, used, unused, root)
 }
 
 // `|:`, which stands here, a type and `|`.
 pub fn parse_size_of(
     kinds: &[u8],
     types: &[u8],
-    node_kinds: &mut [u8],
-    node_loads: &mut [u32],
+    node_words: &mut [u32],
     cursor: TokenId,
     count: u32,
     unused: u32,
 ) -> Parsed
-    requires { ⌜ Sized (now kinds) (now types) (now «node_kinds») (now «node_loads») (cursor .0) count × (cursor .0 < length (now kinds)) ⌝ }
-    ensures { λ r. ⌜ Gives (sizeOf columns (row (now (kinds .entry)) (now (types .entry))) (type columns (row (now (kinds .entry)) (now (types .entry))) unused)) (cursor .0) (nodes (now («node_kinds» .entry)) (now («node_loads» .entry)) count) r (now («node_kinds» .exit)) (now («node_loads» .exit)) ⌝ }
+    requires { ⌜ Sized (now kinds) (now types) (now «node_words») (cursor .0) count × (cursor .0 < length (now kinds)) ⌝ }
+    ensures { λ r. ⌜ Gives (sizeOf words (row (now (kinds .entry)) (now (types .entry))) (type words (row (now (kinds .entry)) (now (types .entry))) unused)) (cursor .0) (nodes (now («node_words» .entry)) count) r (now («node_words» .exit)) ⌝ }
 {
     let at = cursor.0;
     let start = TokenId(at + 1);
-    let queried = parse_type(kinds, types, node_kinds, node_loads, start, count, unused);
+    let queried = parse_type(kinds, types, node_words, start, count, unused);
     let Parsed::Node {
         root,
         cursor: after,
@@ -222,8 +192,7 @@ pub fn parse_size_of(
     };
     push_closed(
         kinds,
-        node_kinds,
-        node_loads,
+        node_words,
         after,
         used,
         BaseToken::Pipe,

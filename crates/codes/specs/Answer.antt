@@ -1,13 +1,11 @@
 -- The answers of the code as the rules give them.
-use Prim.Native.Nat.{ℕ, _≤_}
+use Prim.Native.Nat.{ℕ}
 use mathlib.Core.Path.{_≡_}
 use mathlib.Core.List.{List}
-use lib.ListN.{length}
 use Rattle.codes.specs.declared.Parsed.{Parsed}
 use Rattle.codes.specs.declared.Parsed.the-variants.{Node, Refused}
 use Rattle.codes.specs.declared.NodeId.{NodeId}
 use Rattle.codes.specs.declared.TokenId.{TokenId}
-use Rattle.rules.specs.Codes.Limit as Limit
 use Rattle.rules.specs.Reading.{Rule, Result, ok, no, Row}
 use Rattle.rules.specs.Columns.{Nodes}
 
@@ -33,7 +31,7 @@ pub record Form (A R : Type 0) : Type 0 where
 
 -- the values of a refusal (MANUAL.md, Replies)
 abbrev pub refusal : ℕ → ℕ → ℕ → ℕ → ℕ → Parsed
-refusal number start end cursor count = Refused number (token start) (token end) (token cursor) count
+refusal number start end cursor count = Refused number (token cursor) count (token start) (token end)
 
 -- the values of an acceptance (MANUAL.md, Replies)
 abbrev pub parsed : Form ℕ Parsed
@@ -45,32 +43,7 @@ answer F (ok a) cursor count = F .read a cursor count
 answer F (no number start end) cursor count = F .refused (refusal number start end cursor count)
 
 -- The answer r and the columns ks (kinds) and ls (loads) are what the rule m gives from the cursor c and the nodes s.
-pub record As {A R : Type 0} (F : Form A R) (m : Rule Nodes A) (c : ℕ) (s : Nodes) (r : R)
-    (ks ls : List ℕ) : Type 0 where
-  pub reply : r ≡ answer F (m c s .result) (m c s .cursor) (m c s .state .count)
+pub record Gives (m : Rule Nodes ℕ) (c : ℕ) (s : Nodes) (r : Parsed) (ks ls : List ℕ) : Type 0 where
+  pub reply : r ≡ answer parsed (m c s .result) (m c s .cursor) (m c s .state .count)
   pub kinds : ks ≡ m c s .state .kinds
   pub loads : ls ≡ m c s .state .loads
-
--- the same of a rule that reads a node
-abbrev pub Gives : Rule Nodes ℕ → ℕ → Nodes → Parsed → List ℕ → List ℕ → Type 0
-Gives = As parsed
-
--- The same of a reader that reads no value type: whatever these are.
-pub record Untyped {A R : Type 0} (F : Form A R) (m : Row → Rule Nodes A) (kinds : List ℕ) (c : ℕ) (s : Nodes) (r : R)
-    (ks ls : List ℕ) : Type 0 where
-  pub run : (types : List ℕ) → As F (m (row kinds types)) c s r ks ls
-
--- The same of a reader that appends nothing and reads no value type: whatever these and the columns are.
-pub record Quiet {A R : Type 0} (F : Form A R) (m : Row → Rule Nodes A) (kinds : List ℕ) (c count : ℕ)
-    (r : R) : Type 0 where
-  pub run : (types ks ls : List ℕ) → As F (m (row kinds types)) c (nodes ks ls count) r ks ls
-
--- What every reader takes for granted of the row's kinds ks and value types vs, of the node columns, kinds ns and loads
--- ls, and of its cursor, which may stand just past the last token, and the node count. The entries refuse all else.
-pub record Sized (ks vs ns ls : List ℕ) (cursor count : ℕ) : Type 0 where
-  pub types : length vs ≡ length ks
-  pub tokens : length ks ≤ Limit.Tokens
-  pub at : cursor ≤ length ks
-  pub loads : length ls ≡ length ns
-  pub slots : length ns ≤ Limit.Slots
-  pub used : count ≤ length ns

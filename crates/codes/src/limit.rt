@@ -8,6 +8,9 @@ impl Limit {
     // The most slots of the node columns.
     pub const Slots: u32 = 131075;
 
+    // The largest load of a word, which has 24 bits for it.
+    pub const Load: u32 = 16777215;
+
     // All declaration flags together.
     pub const Flags: u32 = 31;
 

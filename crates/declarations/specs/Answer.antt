@@ -4,48 +4,49 @@ use mathlib.Core.Option.{Option, none}
 use Rattle.rules.specs.Codes.BaseToken as BaseToken
 use Rattle.rules.specs.Codes.ParseNode as ParseNode
 use Rattle.rules.specs.Reading.{Rule, Row, Step, _>>=_, consume}
-use Rattle.rules.specs.Columns.{Nodes, Ends, columns, append, pushEndOfList}
+use Rattle.rules.specs.Lists.{Ends}
+use Rattle.rules.specs.Words.{Words, words, append, pushEndOfList}
 use Rattle.rules.specs.Types.{type}
 use Rattle.rules.specs.Declarations.{opaque, structure, constantEnd, colon, value, memberEnd, members}
 
-unfoldable pub coloned : ℕ → Row → Rule Nodes (Unit {0})
-coloned number row = colon columns row number
+unfoldable pub coloned : ℕ → Row → Rule Words (Unit {0})
+coloned number row = colon words row number
 
 -- a name and a colon
-unfoldable pub named : ℕ → Row → Rule Nodes (Unit {0})
+unfoldable pub named : ℕ → Row → Rule Words (Unit {0})
 named number row = do
   _ ← consume row BaseToken.Identifier
-  colon columns row number
+  colon words row number
 
 -- what follows the colon of the member at a name: its type, and its node
-unfoldable pub memberTyped : ℕ → ℕ → Row → Rule Nodes ℕ
+unfoldable pub memberTyped : ℕ → ℕ → Row → Rule Words ℕ
 memberTyped unused name row = do
-  _ ← type columns row unused
+  _ ← type words row unused
   append ParseNode.IdentifierAndType name
 
-unfoldable pub memberEnding : Option Ends → ℕ → Row → Rule Nodes (Step (Option Ends) (Option Ends))
-memberEnding l t row = memberEnd columns row l t
+unfoldable pub memberEnding : Option Ends → ℕ → Row → Rule Words (Step (Option Ends) (Option Ends))
+memberEnding l t row = memberEnd words row l t
 
 -- the last nodes of a declaration: its name, its flags and itself
-unfoldable pub declaring : ℕ → ℕ → ℕ → ℕ → Rule Nodes ℕ
+unfoldable pub declaring : ℕ → ℕ → ℕ → ℕ → Rule Words ℕ
 declaring kind start flags name = do
   _ ← append ParseNode.Identifier name
   _ ← append ParseNode.DeclarationFlags flags
   append kind start
 
 -- what follows the name of a struct or word with members, and of a struct with none
-unfoldable pub structured : ℕ → ℕ → ℕ → ℕ → ℕ → Row → Rule Nodes ℕ
+unfoldable pub structured : ℕ → ℕ → ℕ → ℕ → ℕ → Row → Rule Words ℕ
 structured unused start flags size name row = do
-  l ← members columns row unused
-  structure columns start flags size name l
+  l ← members words row unused
+  structure words start flags size name l
 
-unfoldable pub opaqueStruct : ℕ → ℕ → ℕ → Rule Nodes ℕ
+unfoldable pub opaqueStruct : ℕ → ℕ → ℕ → Rule Words ℕ
 opaqueStruct start flags name = do
   l ← pushEndOfList none
-  structure columns start (opaque flags) 0 name l
+  structure words start (opaque flags) 0 name l
 
 -- what follows the name and the type t of a constant
-unfoldable pub valued : ℕ → ℕ → ℕ → ℕ → ℕ → Row → Rule Nodes ℕ
+unfoldable pub valued : ℕ → ℕ → ℕ → ℕ → ℕ → Row → Rule Words ℕ
 valued unused start flags name t row = do
-  e ← value columns row unused
-  constantEnd columns start flags name t e
+  e ← value words row unused
+  constantEnd words start flags name t e

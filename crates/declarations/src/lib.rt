@@ -4,9 +4,10 @@
 ghost use mathlib.Core.Path.{_≡_};
 ghost use Prim.Native.Nat.{_+_, _≤_};
 ghost use Rattle.rules.specs.Codes.Limit as Most;
-ghost use Rattle.rules.specs.Columns.{columns};
+ghost use Rattle.rules.specs.Words.{words};
 ghost use Rattle.rules.specs.Declarations.{opaque, sizeOfWord, structure, constantEnd, typed, value, member, memberItem, memberList, members, constant, struct, word};
-ghost use Rattle.codes.specs.Answer.{As, Gives, Quiet, Untyped, Sized, row, nodes};
+ghost use Rattle.codes.specs.Answer.{row};
+ghost use Rattle.codes.specs.Words.{As, Gives, Quiet, Untyped, Sized, nodes};
 ghost use Rattle.nodes.specs.Answer.{Slots, ends, past};
 ghost use Rattle.tokens.specs.Answer.{consumed};
 ghost use Rattle.references.specs.Answer.{stepped};
@@ -35,7 +36,7 @@ use types::parse_type;
 use types::short_type;
 
 // A colon; or the refusal of this number at the token in its place, which is not taken.
-fn parse_colon(kinds: &[u8], cursor: TokenId, count: u32, number: u8) -> Consumed
+fn parse_colon(kinds: &[u8], cursor: TokenId, count: u32, number: u32) -> Consumed
     requires { ⌜ cursor .0 ≤ Most.Tokens + 1 ⌝ }
     ensures { λ r. ⌜ Quiet consumed (coloned number) (now (kinds .entry)) (cursor .0) count r ⌝ }
 {
@@ -58,7 +59,7 @@ fn parse_colon(kinds: &[u8], cursor: TokenId, count: u32, number: u8) -> Consume
 }
 
 // A name and a colon. Where the colon is missing, the refusal has this number.
-fn parse_name(kinds: &[u8], cursor: TokenId, count: u32, number: u8) -> Consumed
+fn parse_name(kinds: &[u8], cursor: TokenId, count: u32, number: u32) -> Consumed
     requires { ⌜ cursor .0 ≤ Most.Tokens ⌝ }
     ensures { λ r. ⌜ Quiet consumed (named number) (now (kinds .entry)) (cursor .0) count r ⌝ }
 {
@@ -75,21 +76,20 @@ fn parse_name(kinds: &[u8], cursor: TokenId, count: u32, number: u8) -> Consumed
 fn parse_typed_name(
     kinds: &[u8],
     types: &[u8],
-    node_kinds: &mut [u8],
-    node_loads: &mut [u32],
+    node_words: &mut [u32],
     cursor: TokenId,
     count: u32,
     unused: u32,
-    number: u8,
+    number: u32,
 ) -> Parsed
-    requires { ⌜ Sized (now kinds) (now types) (now «node_kinds») (now «node_loads») (cursor .0) count × (1 ≤ number) ⌝ }
-    ensures { λ r. ⌜ Gives (typed columns (row (now (kinds .entry)) (now (types .entry))) number unused) (cursor .0) (nodes (now («node_kinds» .entry)) (now («node_loads» .entry)) count) r (now («node_kinds» .exit)) (now («node_loads» .exit)) ⌝ }
+    requires { ⌜ Sized (now kinds) (now types) (now «node_words») (cursor .0) count × (1 ≤ number) ⌝ }
+    ensures { λ r. ⌜ Gives (typed words (row (now (kinds .entry)) (now (types .entry))) number unused) (cursor .0) (nodes (now («node_words» .entry)) count) r (now («node_words» .exit)) ⌝ }
 {
     match parse_name(kinds, cursor, count, number) {
         Consumed::Next {
             cursor: after,
             count: used,
-        } => parse_type(kinds, types, node_kinds, node_loads, after, used, unused),
+        } => parse_type(kinds, types, node_words, after, used, unused),
         Consumed::Wrong { refusal } => refusal,
     }
 }
@@ -99,23 +99,21 @@ fn parse_typed_name(
 fn parse_member_type(
     kinds: &[u8],
     types: &[u8],
-    node_kinds: &mut [u8],
-    node_loads: &mut [u32],
+    node_words: &mut [u32],
     cursor: TokenId,
     count: u32,
     unused: u32,
     name: TokenId,
 ) -> Parsed
-    requires { ⌜ Sized (now kinds) (now types) (now «node_kinds») (now «node_loads») (cursor .0) count ⌝ }
-    ensures { λ r. ⌜ Gives (memberTyped unused (name .0) (row (now (kinds .entry)) (now (types .entry)))) (cursor .0) (nodes (now («node_kinds» .entry)) (now («node_loads» .entry)) count) r (now («node_kinds» .exit)) (now («node_loads» .exit)) ⌝ }
+    requires { ⌜ Sized (now kinds) (now types) (now «node_words») (cursor .0) count × (name .0 ≤ Most.Load) ⌝ }
+    ensures { λ r. ⌜ Gives (memberTyped unused (name .0) (row (now (kinds .entry)) (now (types .entry)))) (cursor .0) (nodes (now («node_words» .entry)) count) r (now («node_words» .exit)) ⌝ }
 {
     let kind = ParseNode::IdentifierAndType;
     let short = short_type(kinds, types, cursor);
     if short.found && unused > 0 {
         let next = TokenId(cursor.0 + 1);
         return push_two(
-            node_kinds,
-            node_loads,
+            node_words,
             next,
             count,
             short.kind,
@@ -124,7 +122,7 @@ fn parse_member_type(
             name.0,
         );
     }
-    let value_type = parse_type(kinds, types, node_kinds, node_loads, cursor, count, unused);
+    let value_type = parse_type(kinds, types, node_words, cursor, count, unused);
     let Parsed::Node {
         root: _,
         cursor: after,
@@ -133,38 +131,26 @@ fn parse_member_type(
     else {
         return value_type;
     };
-    push(node_kinds, node_loads, after, used, kind, name.0)
+    push(node_words, after, used, kind, name.0)
 }
 
 // A member: a name, a colon and a type.
 fn parse_member(
     kinds: &[u8],
     types: &[u8],
-    node_kinds: &mut [u8],
-    node_loads: &mut [u32],
+    node_words: &mut [u32],
     cursor: TokenId,
     count: u32,
     unused: u32,
 ) -> Parsed
-    requires { ⌜ Sized (now kinds) (now types) (now «node_kinds») (now «node_loads») (cursor .0) count ⌝ }
-    ensures { λ r. ⌜ Gives (member columns (row (now (kinds .entry)) (now (types .entry))) unused) (cursor .0) (nodes (now («node_kinds» .entry)) (now («node_loads» .entry)) count) r (now («node_kinds» .exit)) (now («node_loads» .exit)) ⌝ }
+    requires { ⌜ Sized (now kinds) (now types) (now «node_words») (cursor .0) count ⌝ }
+    ensures { λ r. ⌜ Gives (member words (row (now (kinds .entry)) (now (types .entry))) unused) (cursor .0) (nodes (now («node_words» .entry)) count) r (now («node_words» .exit)) ⌝ }
 {
     match parse_name(kinds, cursor, count, Refusal::MissingMemberType) {
         Consumed::Next {
             cursor: after,
             count: same,
-        } => {
-            parse_member_type(
-                kinds,
-                types,
-                node_kinds,
-                node_loads,
-                after,
-                same,
-                unused,
-                cursor,
-            )
-        }
+        } => { parse_member_type(kinds, types, node_words, after, same, unused, cursor) }
         Consumed::Wrong { refusal } => refusal,
     }
 }
@@ -172,21 +158,20 @@ fn parse_member(
 // After a member: its comma, and then the member becomes an item of the list.
 fn finish_member(
     kinds: &[u8],
-    node_kinds: &mut [u8],
-    node_loads: &mut [u32],
+    node_words: &mut [u32],
     cursor: TokenId,
     count: u32,
     list: ActiveList,
     member: NodeId,
 ) -> Stepped
-    requires { ⌜ (cursor .0 ≤ Most.Tokens + 1) × Slots (now «node_kinds») (now «node_loads») count × (past list ≤ count) ⌝ }
-    ensures { λ r. ⌜ Untyped stepped (memberEnding (ends list) (member .0)) (now (kinds .entry)) (cursor .0) (nodes (now («node_kinds» .entry)) (now («node_loads» .entry)) count) r (now («node_kinds» .exit)) (now («node_loads» .exit)) ⌝ }
+    requires { ⌜ (cursor .0 ≤ Most.Tokens + 1) × Slots (now «node_words») count × (past list ≤ count) ⌝ }
+    ensures { λ r. ⌜ Untyped stepped (memberEnding (ends list) (member .0)) (now (kinds .entry)) (cursor .0) (nodes (now («node_words» .entry)) count) r (now («node_words» .exit)) ⌝ }
 {
     match consume(kinds, cursor, count, BaseToken::Comma) {
         Consumed::Next {
             cursor: after,
             count: same,
-        } => push_step(node_kinds, node_loads, after, same, list, member),
+        } => push_step(node_words, after, same, list, member),
         Consumed::Wrong { refusal } => Stepped::Refused { refusal },
     }
 }
@@ -195,15 +180,14 @@ fn finish_member(
 fn parse_member_item(
     kinds: &[u8],
     types: &[u8],
-    node_kinds: &mut [u8],
-    node_loads: &mut [u32],
+    node_words: &mut [u32],
     cursor: TokenId,
     count: u32,
     unused: u32,
     list: ActiveList,
 ) -> Stepped
-    requires { ⌜ Sized (now kinds) (now types) (now «node_kinds») (now «node_loads») (cursor .0) count × (past list ≤ count) ⌝ }
-    ensures { λ r. ⌜ As stepped (memberItem columns (row (now (kinds .entry)) (now (types .entry))) unused (ends list)) (cursor .0) (nodes (now («node_kinds» .entry)) (now («node_loads» .entry)) count) r (now («node_kinds» .exit)) (now («node_loads» .exit)) ⌝ }
+    requires { ⌜ Sized (now kinds) (now types) (now «node_words») (cursor .0) count × (past list ≤ count) ⌝ }
+    ensures { λ r. ⌜ As stepped (memberItem words (row (now (kinds .entry)) (now (types .entry))) unused (ends list)) (cursor .0) (nodes (now («node_words» .entry)) count) r (now («node_words» .exit)) ⌝ }
 {
     let closing = consume_optional(kinds, cursor, BaseToken::BraceRight);
     let from = closing.cursor;
@@ -214,7 +198,7 @@ fn parse_member_item(
             count,
         };
     }
-    let member = parse_member(kinds, types, node_kinds, node_loads, cursor, count, unused);
+    let member = parse_member(kinds, types, node_words, cursor, count, unused);
     let Parsed::Node {
         root,
         cursor: after,
@@ -223,28 +207,27 @@ fn parse_member_item(
     else {
         return Stepped::Refused { refusal: member };
     };
-    finish_member(kinds, node_kinds, node_loads, after, used, list, root)
+    finish_member(kinds, node_words, after, used, list, root)
 }
 
 // The members after the opening brace: their list.
 fn parse_rest_of_members(
     kinds: &[u8],
     types: &[u8],
-    node_kinds: &mut [u8],
-    node_loads: &mut [u32],
+    node_words: &mut [u32],
     cursor: TokenId,
     count: u32,
     unused: u32,
 ) -> Parsed
-    requires { ⌜ Sized (now kinds) (now types) (now «node_kinds») (now «node_loads») (cursor .0) count ⌝ }
-    ensures { λ r. ⌜ Gives (memberList columns (row (now (kinds .entry)) (now (types .entry))) unused) (cursor .0) (nodes (now («node_kinds» .entry)) (now («node_loads» .entry)) count) r (now («node_kinds» .exit)) (now («node_loads» .exit)) ⌝ }
+    requires { ⌜ Sized (now kinds) (now types) (now «node_words») (cursor .0) count ⌝ }
+    ensures { λ r. ⌜ Gives (memberList words (row (now (kinds .entry)) (now (types .entry))) unused) (cursor .0) (nodes (now («node_words» .entry)) count) r (now («node_words» .exit)) ⌝ }
 {
     let mut list = start_list();
     let mut place = cursor.0;
     let mut used = count;
     loop {
         let at = TokenId(place);
-        match parse_member_item(kinds, types, node_kinds, node_loads, at, used, unused, list) {
+        match parse_member_item(kinds, types, node_words, at, used, unused, list) {
             Stepped::More {
                 list: longer,
                 cursor: after,
@@ -259,7 +242,7 @@ fn parse_rest_of_members(
                 cursor: end,
                 count: more,
             } => {
-                return push_end_of_list(node_kinds, node_loads, end, more, whole);
+                return push_end_of_list(node_words, end, more, whole);
             }
             Stepped::Refused { refusal } => {
                 return refusal;
@@ -272,28 +255,26 @@ fn parse_rest_of_members(
 fn parse_struct_members(
     kinds: &[u8],
     types: &[u8],
-    node_kinds: &mut [u8],
-    node_loads: &mut [u32],
+    node_words: &mut [u32],
     cursor: TokenId,
     count: u32,
     unused: u32,
 ) -> Parsed
-    requires { ⌜ Sized (now kinds) (now types) (now «node_kinds») (now «node_loads») (cursor .0) count ⌝ }
-    ensures { λ r. ⌜ Gives (members columns (row (now (kinds .entry)) (now (types .entry))) unused) (cursor .0) (nodes (now («node_kinds» .entry)) (now («node_loads» .entry)) count) r (now («node_kinds» .exit)) (now («node_loads» .exit)) ⌝ }
+    requires { ⌜ Sized (now kinds) (now types) (now «node_words») (cursor .0) count ⌝ }
+    ensures { λ r. ⌜ Gives (members words (row (now (kinds .entry)) (now (types .entry))) unused) (cursor .0) (nodes (now («node_words» .entry)) count) r (now («node_words» .exit)) ⌝ }
 {
     match consume(kinds, cursor, count, BaseToken::BraceLeft) {
         Consumed::Next {
             cursor: inside,
             count: same,
-        } => parse_rest_of_members(kinds, types, node_kinds, node_loads, inside, same, unused),
+        } => parse_rest_of_members(kinds, types, node_words, inside, same, unused),
         Consumed::Wrong { refusal } => refusal,
     }
 }
 
 // The last nodes of each declaration: its name, its flags and itself.
 fn push_declaration(
-    node_kinds: &mut [u8],
-    node_loads: &mut [u32],
+    node_words: &mut [u32],
     cursor: TokenId,
     count: u32,
     kind: u8,
@@ -301,12 +282,11 @@ fn push_declaration(
     flags: u32,
     name: TokenId,
 ) -> Parsed
-    requires { ⌜ Slots (now «node_kinds») (now «node_loads») count ⌝ }
-    ensures { λ r. ⌜ Gives (declaring kind (start .0) flags (name .0)) (cursor .0) (nodes (now («node_kinds» .entry)) (now («node_loads» .entry)) count) r (now («node_kinds» .exit)) (now («node_loads» .exit)) ⌝ }
+    requires { ⌜ Slots (now «node_words») count × (start .0 ≤ Most.Load) × (flags ≤ Most.Load) × (name .0 ≤ Most.Load) ⌝ }
+    ensures { λ r. ⌜ Gives (declaring kind (start .0) flags (name .0)) (cursor .0) (nodes (now («node_words» .entry)) count) r (now («node_words» .exit)) ⌝ }
 {
     let flagged = push_two(
-        node_kinds,
-        node_loads,
+        node_words,
         cursor,
         count,
         ParseNode::Identifier,
@@ -322,13 +302,12 @@ fn push_declaration(
     else {
         return flagged;
     };
-    push(node_kinds, node_loads, after, used, kind, start.0)
+    push(node_words, after, used, kind, start.0)
 }
 
 // The nodes of a struct or word, after its members' list.
 fn push_structure(
-    node_kinds: &mut [u8],
-    node_loads: &mut [u32],
+    node_words: &mut [u32],
     cursor: TokenId,
     count: u32,
     start: TokenId,
@@ -337,12 +316,11 @@ fn push_structure(
     name: TokenId,
     list: NodeId,
 ) -> Parsed
-    requires { ⌜ Slots (now «node_kinds») (now «node_loads») count ⌝ }
-    ensures { λ r. ⌜ Gives (structure columns (start .0) flags size (name .0) (list .0)) (cursor .0) (nodes (now («node_kinds» .entry)) (now («node_loads» .entry)) count) r (now («node_kinds» .exit)) (now («node_loads» .exit)) ⌝ }
+    requires { ⌜ Slots (now «node_words») count × (start .0 ≤ Most.Load) × (flags ≤ Most.Load) × (size ≤ Most.Load) × (name .0 ≤ Most.Load) × (list .0 ≤ Most.Load) ⌝ }
+    ensures { λ r. ⌜ Gives (structure words (start .0) flags size (name .0) (list .0)) (cursor .0) (nodes (now («node_words» .entry)) count) r (now («node_words» .exit)) ⌝ }
 {
     let sized = push_two(
-        node_kinds,
-        node_loads,
+        node_words,
         cursor,
         count,
         ParseNode::List,
@@ -359,24 +337,14 @@ fn push_structure(
         return sized;
     };
     let kind = ParseNode::StructureDeclaration;
-    push_declaration(
-        node_kinds,
-        node_loads,
-        after,
-        used,
-        kind,
-        start,
-        flags,
-        name,
-    )
+    push_declaration(node_words, after, used, kind, start, flags, name)
 }
 
 // Members in braces, and the nodes of what has them.
 fn parse_structure(
     kinds: &[u8],
     types: &[u8],
-    node_kinds: &mut [u8],
-    node_loads: &mut [u32],
+    node_words: &mut [u32],
     cursor: TokenId,
     count: u32,
     unused: u32,
@@ -385,10 +353,10 @@ fn parse_structure(
     size: u32,
     name: TokenId,
 ) -> Parsed
-    requires { ⌜ Sized (now kinds) (now types) (now «node_kinds») (now «node_loads») (cursor .0) count ⌝ }
-    ensures { λ r. ⌜ Gives (structured unused (start .0) flags size (name .0) (row (now (kinds .entry)) (now (types .entry)))) (cursor .0) (nodes (now («node_kinds» .entry)) (now («node_loads» .entry)) count) r (now («node_kinds» .exit)) (now («node_loads» .exit)) ⌝ }
+    requires { ⌜ Sized (now kinds) (now types) (now «node_words») (cursor .0) count × (start .0 ≤ Most.Load) × (flags ≤ Most.Load) × (size ≤ Most.Load) × (name .0 ≤ Most.Load) ⌝ }
+    ensures { λ r. ⌜ Gives (structured unused (start .0) flags size (name .0) (row (now (kinds .entry)) (now (types .entry)))) (cursor .0) (nodes (now («node_words» .entry)) count) r (now («node_words» .exit)) ⌝ }
 {
-    let list = parse_struct_members(kinds, types, node_kinds, node_loads, cursor, count, unused);
+    let list = parse_struct_members(kinds, types, node_words, cursor, count, unused);
     let Parsed::Node {
         root,
         cursor: after,
@@ -397,17 +365,7 @@ fn parse_structure(
     else {
         return list;
     };
-    push_structure(
-        node_kinds,
-        node_loads,
-        after,
-        used,
-        start,
-        flags,
-        size,
-        name,
-        root,
-    )
+    push_structure(node_words, after, used, start, flags, size, name, root)
 }
 
 // The flags with OpaqueStruct among them.
@@ -423,18 +381,17 @@ fn opaque_flags(flags: u32) -> u32
 
 // A struct without members, after its semicolon.
 fn push_opaque_struct(
-    node_kinds: &mut [u8],
-    node_loads: &mut [u32],
+    node_words: &mut [u32],
     cursor: TokenId,
     count: u32,
     start: TokenId,
     flags: u32,
     name: TokenId,
 ) -> Parsed
-    requires { ⌜ Slots (now «node_kinds») (now «node_loads») count ⌝ }
-    ensures { λ r. ⌜ Gives (opaqueStruct (start .0) flags (name .0)) (cursor .0) (nodes (now («node_kinds» .entry)) (now («node_loads» .entry)) count) r (now («node_kinds» .exit)) (now («node_loads» .exit)) ⌝ }
+    requires { ⌜ Slots (now «node_words») count × (start .0 ≤ Most.Load) × (flags ≤ Most.Load) × (name .0 ≤ Most.Load) ⌝ }
+    ensures { λ r. ⌜ Gives (opaqueStruct (start .0) flags (name .0)) (cursor .0) (nodes (now («node_words» .entry)) count) r (now («node_words» .exit)) ⌝ }
 {
-    let list = push_end_of_list(node_kinds, node_loads, cursor, count, start_list());
+    let list = push_end_of_list(node_words, cursor, count, start_list());
     let Parsed::Node {
         root,
         cursor: after,
@@ -444,33 +401,22 @@ fn push_opaque_struct(
         return list;
     };
     let all = opaque_flags(flags);
-    push_structure(
-        node_kinds,
-        node_loads,
-        after,
-        used,
-        start,
-        all,
-        0,
-        name,
-        root,
-    )
+    push_structure(node_words, after, used, start, all, 0, name, root)
 }
 
 // A struct: a name with a semicolon, or with members in braces.
 pub fn parse_struct_declaration(
     kinds: &[u8],
     types: &[u8],
-    node_kinds: &mut [u8],
-    node_loads: &mut [u32],
+    node_words: &mut [u32],
     cursor: TokenId,
     count: u32,
     unused: u32,
     start: TokenId,
     flags: u32,
 ) -> Parsed
-    requires { ⌜ Sized (now kinds) (now types) (now «node_kinds») (now «node_loads») (cursor .0) count ⌝ }
-    ensures { λ r. ⌜ Gives (struct columns (row (now (kinds .entry)) (now (types .entry))) unused (start .0) flags) (cursor .0) (nodes (now («node_kinds» .entry)) (now («node_loads» .entry)) count) r (now («node_kinds» .exit)) (now («node_loads» .exit)) ⌝ }
+    requires { ⌜ Sized (now kinds) (now types) (now «node_words») (cursor .0) count × (start .0 ≤ Most.Load) × (flags ≤ Most.Load) ⌝ }
+    ensures { λ r. ⌜ Gives (struct words (row (now (kinds .entry)) (now (types .entry))) unused (start .0) flags) (cursor .0) (nodes (now («node_words» .entry)) count) r (now («node_words» .exit)) ⌝ }
 {
     match consume(kinds, cursor, count, BaseToken::Identifier) {
         Consumed::Next {
@@ -480,13 +426,12 @@ pub fn parse_struct_declaration(
             let semicolon = consume_optional(kinds, named, BaseToken::Semicolon);
             let after = semicolon.cursor;
             if semicolon.found {
-                push_opaque_struct(node_kinds, node_loads, after, same, start, flags, cursor)
+                push_opaque_struct(node_words, after, same, start, flags, cursor)
             } else {
                 parse_structure(
                     kinds,
                     types,
-                    node_kinds,
-                    node_loads,
+                    node_words,
                     after,
                     same,
                     unused,
@@ -518,8 +463,7 @@ fn size_of_word(kind: u8) -> u32
 pub fn parse_word_declaration(
     kinds: &[u8],
     types: &[u8],
-    node_kinds: &mut [u8],
-    node_loads: &mut [u32],
+    node_words: &mut [u32],
     cursor: TokenId,
     count: u32,
     unused: u32,
@@ -527,8 +471,8 @@ pub fn parse_word_declaration(
     flags: u32,
     declaring_token: u8,
 ) -> Parsed
-    requires { ⌜ Sized (now kinds) (now types) (now «node_kinds») (now «node_loads») (cursor .0) count ⌝ }
-    ensures { λ r. ⌜ Gives (word columns (row (now (kinds .entry)) (now (types .entry))) unused (start .0) flags «declaring_token») (cursor .0) (nodes (now («node_kinds» .entry)) (now («node_loads» .entry)) count) r (now («node_kinds» .exit)) (now («node_loads» .exit)) ⌝ }
+    requires { ⌜ Sized (now kinds) (now types) (now «node_words») (cursor .0) count × (start .0 ≤ Most.Load) × (flags ≤ Most.Load) ⌝ }
+    ensures { λ r. ⌜ Gives (word words (row (now (kinds .entry)) (now (types .entry))) unused (start .0) flags «declaring_token») (cursor .0) (nodes (now («node_words» .entry)) count) r (now («node_words» .exit)) ⌝ }
 {
     match consume(kinds, cursor, count, BaseToken::Identifier) {
         Consumed::Next {
@@ -539,8 +483,7 @@ pub fn parse_word_declaration(
             parse_structure(
                 kinds,
                 types,
-                node_kinds,
-                node_loads,
+                node_words,
                 named,
                 same,
                 unused,
@@ -558,21 +501,20 @@ pub fn parse_word_declaration(
 fn parse_value(
     kinds: &[u8],
     types: &[u8],
-    node_kinds: &mut [u8],
-    node_loads: &mut [u32],
+    node_words: &mut [u32],
     cursor: TokenId,
     count: u32,
     unused: u32,
 ) -> Parsed
-    requires { ⌜ Sized (now kinds) (now types) (now «node_kinds») (now «node_loads») (cursor .0) count ⌝ }
-    ensures { λ r. ⌜ Gives (value columns (row (now (kinds .entry)) (now (types .entry))) unused) (cursor .0) (nodes (now («node_kinds» .entry)) (now («node_loads» .entry)) count) r (now («node_kinds» .exit)) (now («node_loads» .exit)) ⌝ }
+    requires { ⌜ Sized (now kinds) (now types) (now «node_words») (cursor .0) count ⌝ }
+    ensures { λ r. ⌜ Gives (value words (row (now (kinds .entry)) (now (types .entry))) unused) (cursor .0) (nodes (now («node_words» .entry)) count) r (now («node_words» .exit)) ⌝ }
 {
     match consume(kinds, cursor, count, BaseToken::Assignment) {
         Consumed::Next {
             cursor: after,
             count: same,
         } => {
-            let value = parse_expression(kinds, types, node_kinds, node_loads, after, same, unused);
+            let value = parse_expression(kinds, types, node_words, after, same, unused);
             let Parsed::Node {
                 root,
                 cursor: end,
@@ -599,8 +541,7 @@ fn parse_value(
 
 // The nodes of a constant, after its value.
 fn push_constant(
-    node_kinds: &mut [u8],
-    node_loads: &mut [u32],
+    node_words: &mut [u32],
     cursor: TokenId,
     count: u32,
     start: TokenId,
@@ -609,10 +550,10 @@ fn push_constant(
     value_type: NodeId,
     value: NodeId,
 ) -> Parsed
-    requires { ⌜ Slots (now «node_kinds») (now «node_loads») count ⌝ }
-    ensures { λ r. ⌜ Gives (constantEnd columns (start .0) flags (name .0) («value_type» .0) (value .0)) (cursor .0) (nodes (now («node_kinds» .entry)) (now («node_loads» .entry)) count) r (now («node_kinds» .exit)) (now («node_loads» .exit)) ⌝ }
+    requires { ⌜ Slots (now «node_words») count × (start .0 ≤ Most.Load) × (flags ≤ Most.Load) × (name .0 ≤ Most.Load) × («value_type» .0 ≤ Most.Load) ⌝ }
+    ensures { λ r. ⌜ Gives (constantEnd words (start .0) flags (name .0) («value_type» .0) (value .0)) (cursor .0) (nodes (now («node_words» .entry)) count) r (now («node_words» .exit)) ⌝ }
 {
-    let item = push_older_node(node_kinds, node_loads, cursor, count, value_type);
+    let item = push_older_node(node_words, cursor, count, value_type);
     let Parsed::Node {
         root: _,
         cursor: after,
@@ -622,24 +563,14 @@ fn push_constant(
         return item;
     };
     let kind = ParseNode::ConstantDeclaration;
-    push_declaration(
-        node_kinds,
-        node_loads,
-        after,
-        used,
-        kind,
-        start,
-        flags,
-        name,
-    )
+    push_declaration(node_words, after, used, kind, start, flags, name)
 }
 
 // After the name and the type of a constant: its value, and its nodes.
 fn parse_rest_of_constant(
     kinds: &[u8],
     types: &[u8],
-    node_kinds: &mut [u8],
-    node_loads: &mut [u32],
+    node_words: &mut [u32],
     cursor: TokenId,
     count: u32,
     unused: u32,
@@ -648,10 +579,10 @@ fn parse_rest_of_constant(
     name: TokenId,
     value_type: NodeId,
 ) -> Parsed
-    requires { ⌜ Sized (now kinds) (now types) (now «node_kinds») (now «node_loads») (cursor .0) count ⌝ }
-    ensures { λ r. ⌜ Gives (valued unused (start .0) flags (name .0) («value_type» .0) (row (now (kinds .entry)) (now (types .entry)))) (cursor .0) (nodes (now («node_kinds» .entry)) (now («node_loads» .entry)) count) r (now («node_kinds» .exit)) (now («node_loads» .exit)) ⌝ }
+    requires { ⌜ Sized (now kinds) (now types) (now «node_words») (cursor .0) count × (start .0 ≤ Most.Load) × (flags ≤ Most.Load) × (name .0 ≤ Most.Load) × («value_type» .0 ≤ Most.Load) ⌝ }
+    ensures { λ r. ⌜ Gives (valued unused (start .0) flags (name .0) («value_type» .0) (row (now (kinds .entry)) (now (types .entry)))) (cursor .0) (nodes (now («node_words» .entry)) count) r (now («node_words» .exit)) ⌝ }
 {
-    let initial = parse_value(kinds, types, node_kinds, node_loads, cursor, count, unused);
+    let initial = parse_value(kinds, types, node_words, cursor, count, unused);
     let Parsed::Node {
         root: value,
         cursor: after,
@@ -661,8 +592,7 @@ fn parse_rest_of_constant(
         return initial;
     };
     push_constant(
-        node_kinds,
-        node_loads,
+        node_words,
         after,
         used,
         start,
@@ -677,28 +607,18 @@ fn parse_rest_of_constant(
 pub fn parse_constant_declaration(
     kinds: &[u8],
     types: &[u8],
-    node_kinds: &mut [u8],
-    node_loads: &mut [u32],
+    node_words: &mut [u32],
     cursor: TokenId,
     count: u32,
     unused: u32,
     start: TokenId,
     flags: u32,
 ) -> Parsed
-    requires { ⌜ Sized (now kinds) (now types) (now «node_kinds») (now «node_loads») (cursor .0) count ⌝ }
-    ensures { λ r. ⌜ Gives (constant columns (row (now (kinds .entry)) (now (types .entry))) unused (start .0) flags) (cursor .0) (nodes (now («node_kinds» .entry)) (now («node_loads» .entry)) count) r (now («node_kinds» .exit)) (now («node_loads» .exit)) ⌝ }
+    requires { ⌜ Sized (now kinds) (now types) (now «node_words») (cursor .0) count × (start .0 ≤ Most.Load) × (flags ≤ Most.Load) ⌝ }
+    ensures { λ r. ⌜ Gives (constant words (row (now (kinds .entry)) (now (types .entry))) unused (start .0) flags) (cursor .0) (nodes (now («node_words» .entry)) count) r (now («node_words» .exit)) ⌝ }
 {
     let number = Refusal::MissingConstantType;
-    let typed = parse_typed_name(
-        kinds,
-        types,
-        node_kinds,
-        node_loads,
-        cursor,
-        count,
-        unused,
-        number,
-    );
+    let typed = parse_typed_name(kinds, types, node_words, cursor, count, unused, number);
     let Parsed::Node {
         root,
         cursor: after,
@@ -710,8 +630,7 @@ pub fn parse_constant_declaration(
     parse_rest_of_constant(
         kinds,
         types,
-        node_kinds,
-        node_loads,
+        node_words,
         after,
         used,
         unused,

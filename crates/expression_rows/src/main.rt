@@ -8,11 +8,11 @@ use libc::STDIN_FILENO;
 use libc::STDOUT_FILENO;
 use row_text::TOKENS;
 
-// The slots of the columns, of which a row says how many are lent.
+// The slots, of which a row says how many are lent.
 const SLOTS: usize = 512;
 
-// What a slot's kind is before a node is appended there; no node has it.
-const UNUSED: u8 = 255;
+// What a slot holds before a node is appended there; no node has this kind.
+const UNUSED: u32 = 255;
 
 // The reply to a row: the first tokens of the two columns.
 fn show(
@@ -26,15 +26,12 @@ fn show(
 {
     let kinds: &[u8] = all_kinds;
     let types: &[u8] = all_types;
-    let mut all_nodes = [UNUSED; SLOTS];
-    let mut all_loads = [0u32; SLOTS];
-    let node_kinds = &mut all_nodes[..slots];
-    let node_loads = &mut all_loads[..slots];
+    let mut all_words = [UNUSED; SLOTS];
+    let node_words = &mut all_words[..slots];
     let reply = expressions::parse_expression(
         &kinds[..tokens],
         &types[..tokens],
-        node_kinds,
-        node_loads,
+        node_words,
         TokenId(0),
         0,
         Limit::Nesting,
@@ -42,7 +39,7 @@ fn show(
     io::write_all(STDOUT_FILENO, text);
     io::write_all(STDOUT_FILENO, b": ");
     let count = show::print_reply(reply);
-    show::print_nodes(node_kinds, node_loads, count as usize);
+    show::print_words(node_words, count as usize);
 }
 
 // The reply to the row that a line says.

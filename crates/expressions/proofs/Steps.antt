@@ -9,9 +9,10 @@ use Rattle.codes.specs.declared.Parsed.{Parsed}
 use Rattle.codes.specs.declared.Parsed.the-variants.{Node, Refused}
 use Rattle.codes.specs.declared.NodeId.{NodeId}
 use Rattle.codes.specs.declared.TokenId.{TokenId}
-use Rattle.codes.specs.Answer.{As, Gives, Untyped, Sized, nodes, token, row, refusal}
+use Rattle.codes.specs.Answer.{token, row, refusal}
+use Rattle.codes.specs.Words.{As, Gives, Untyped, Sized, nodes}
 use Rattle.codes.proofs.Onto.{Onto, _then_, stays, first, reads, regroup, at-here, answers, declines, shows, told, held}
-use Rattle.codes.proofs.Onto.{stops, hands-on, came-read, plain-parsed, Rest, split, sized-after}
+use Rattle.codes.proofs.Onto.{stops, hands-on, came-read, plain-parsed, Rest, split, sized-after, moved}
 use Rattle.codes.proofs.Loops.{round, round-again, round-last, heldIn, same-held}
 use Rattle.nodes.specs.declared.ActiveList.{ActiveList}
 use Rattle.nodes.specs.Answer.{Slots, ends, active, past}
@@ -30,35 +31,36 @@ use Rattle.rules.specs.Codes.BaseToken as BaseToken
 use Rattle.rules.specs.Codes.Limit as Limit
 use Rattle.rules.specs.Codes.Refusal as Refusal
 use Rattle.rules.specs.Reading.{Rule, Row, Outcome, Step, done, again, pure, repeat, _>>=_, optional}
-use Rattle.rules.specs.Columns.{Nodes, Ends, columns}
+use Rattle.rules.specs.Lists.{Ends}
+use Rattle.rules.specs.Words.{Words, words}
 use Rattle.rules.specs.Expressions as Rules
 use Rattle.rules.specs.Expressions.{expression, step, steps, exceeded, elementEnd, member}
 use Rattle.rules.proofs.Forward.{Round}
-use Rattle.rules.proofs.Demand.{below}
+use Rattle.rules.proofs.Forward.{below}
 use Rattle.rules.proofs.Moves.{expression-moves, step-round}
 
 -- a step, or none, by the token that stands there
-module _ (tk tv : List ℕ) (u c t : ℕ) (peeked : t ≡ kindIn tk c) (l : ActiveList) {k : ℕ} {ks ls : List ℕ} where
-  module _ (e : t ≡ BaseToken.BracketLeft) {r₁ : Parsed} {ks₁ ls₁ : List ℕ}
-      (g : Gives (expression columns (row tk tv) u) (c + 1) (nodes ks ls k) r₁ ks₁ ls₁) where
+module _ (tk tv : List ℕ) (u c t : ℕ) (peeked : t ≡ kindIn tk c) (l : ActiveList) {k : ℕ} {ks : List ℕ} where
+  module _ (e : t ≡ BaseToken.BracketLeft) {r₁ : Parsed} {ks₁ : List ℕ}
+      (g : Gives (expression words (row tk tv) u) (c + 1) (nodes ks k) r₁ ks₁) where
     pub element-stopped :
-        {x : ℕ} {a b p : TokenId} {j : ℕ} → r₁ ≡ Refused x a b p j →
-        As stepped (stepping (ends l) u (row tk tv)) c (nodes ks ls k) (Stopped r₁) ks₁ ls₁
+        {x : ℕ} {a b p : TokenId} {j : ℕ} → r₁ ≡ Refused x p j a b →
+        As stepped (stepping (ends l) u (row tk tv)) c (nodes ks k) (Stopped r₁) ks₁
     unfolding stepping step
     element-stopped q = hands-on _ (reads _ (there tk c t peeked tv _ e)) (told g q)
 
     pub element-read :
-        {n : NodeId} {p : TokenId} {j : ℕ} → r₁ ≡ Node n p j → {r : Stepped} {ks₂ ls₂ : List ℕ} →
-        Untyped stepped (elementing (ends l) (n .0)) tk (p .0) (nodes ks₁ ls₁ j) r ks₂ ls₂ →
-        As stepped (stepping (ends l) u (row tk tv)) c (nodes ks ls k) r ks₂ ls₂
+        {n : NodeId} {p : TokenId} {j : ℕ} → r₁ ≡ Node n p j → {r : Stepped} {ks₂ : List ℕ} →
+        Untyped stepped (elementing (ends l) (n .0)) tk (p .0) (nodes ks₁ j) r ks₂ →
+        As stepped (stepping (ends l) u (row tk tv)) c (nodes ks k) r ks₂
     unfolding stepping step elementing
     element-read q d =
         shows (reads _ (there tk c t peeked tv _ e) then reads _ (came-read plain-parsed g q)) (d .run tv)
 
   pub member-read :
-      t ≡ BaseToken.Dot → {r : Stepped} {ks₁ ls₁ : List ℕ} →
-      Untyped stepped (membering (ends l)) tk (c + 1) (nodes ks ls k) r ks₁ ls₁ →
-      As stepped (stepping (ends l) u (row tk tv)) c (nodes ks ls k) r ks₁ ls₁
+      t ≡ BaseToken.Dot → {r : Stepped} {ks₁ : List ℕ} →
+      Untyped stepped (membering (ends l)) tk (c + 1) (nodes ks k) r ks₁ →
+      As stepped (stepping (ends l) u (row tk tv)) c (nodes ks k) r ks₁
   unfolding stepping step membering
   member-read e d =
       shows
@@ -67,10 +69,10 @@ module _ (tk tv : List ℕ) (u c t : ℕ) (peeked : t ≡ kindIn tk c) (l : Acti
 
   pub step-none :
       Rest t (Unit {0}) (BaseToken.BracketLeft ∷ BaseToken.Dot ∷ []) →
-      As stepped (stepping (ends l) u (row tk tv)) c (nodes ks ls k) (Last l (token c) k) ks ls
+      As stepped (stepping (ends l) u (row tk tv)) c (nodes ks k) (Last l (token c) k) ks
   unfolding stepping step
   step-none h =
-      let g : As stepped (stepping (ends l) u (row tk tv)) c (nodes ks ls k) _ ks ls =
+      let g : As stepped (stepping (ends l) u (row tk tv)) c (nodes ks k) _ ks =
       answers
       (reads _ (not-there tk c t peeked tv _ (h .0 .1)) then reads _ (not-there tk c t peeked tv _ (h .1))) in
       rw (active-ends l) at g
@@ -86,85 +88,77 @@ last-same {m = m} {p = p} {j = j} q = q ∙ ap (λ (x : ActiveList). Last x p j)
 
 -- after a step, or none: the list's end is among the nodes
 stepped-fits :
-    (at : Row) (expr : Rule Nodes ℕ) (l : Option Ends) {c : ℕ} {s : Nodes} {b : Step (Option Ends) (Option Ends)}
-    {c' : ℕ} {s' : Nodes} → Onto (step columns at expr l) c s (pure b) c' s' → past (active l) ≤ s .count →
+    (at : Row) (expr : Rule Words ℕ) (l : Option Ends) {c : ℕ} {s : Words} {b : Step (Option Ends) (Option Ends)}
+    {c' : ℕ} {s' : Words} → Onto (step words at expr l) c s (pure b) c' s' → past (active l) ≤ s' .count →
     past (active (heldIn b)) ≤ s' .count
 unfolding step optional elementEnd member
-stepped-fits at expr l {s = s} {b = b} {c' = c'} {s' = s'} e h =
-    let w = split e in
-    let x : s .count ≡ w .state .count = ap (λ (o : Outcome Nodes Bool). o .state .count) (w .one .same) in
-    by-bracket (w .value) (w .two) (omega arith)
+stepped-fits at expr l {s = s} {b = b} {c' = c'} {s' = s'} e h = let w = split e in by-bracket (w .value) (w .two)
   where
     by-dot :
-        (v : Bool) {p : ℕ} {t : Nodes} → Onto (pick v (member columns at l) (pure (done l))) p t (pure b) c' s' →
-        past (active l) ≤ t .count → past (active (heldIn b)) ≤ s' .count
-    by-dot true e h = step-fits at l _ (split (split (split e .two) .two) .two)
-    by-dot false {p} e h =
+        (v : Bool) {p : ℕ} {t : Words} → Onto (pick v (member words at l) (pure (done l))) p t (pure b) c' s' →
+        past (active (heldIn b)) ≤ s' .count
+    by-dot true e = step-fits at l _ (split (split (split e .two) .two) .two) h
+    by-dot false {p} e =
         let (y, z) = same-held (done l) b p c' e in
         let v : past (active l) ≡ past (active (heldIn b)) = ap (λ (x : Option Ends). past (active x)) y in
         omega arith
 
     by-bracket :
-        (v : Bool) {p : ℕ} {t : Nodes} →
-        Onto (pick v (expr >>= λ i. elementEnd columns at l i)
-        (optional at BaseToken.Dot >>= λ dot. pick dot (member columns at l) (pure (done l)))) p t (pure b) c' s' →
-        past (active l) ≤ t .count → past (active (heldIn b)) ≤ s' .count
-    by-bracket true e h = step-fits at l _ (split (split e .two) .two)
-    by-bracket false {p} {t} e h =
-        let w = split e in
-        let x : t .count ≡ w .state .count = ap (λ (o : Outcome Nodes Bool). o .state .count) (w .one .same) in
-        by-dot (w .value) (w .two) (omega arith)
+        (v : Bool) {p : ℕ} {t : Words} →
+        Onto (pick v (expr >>= λ i. elementEnd words at l i)
+        (optional at BaseToken.Dot >>= λ dot. pick dot (member words at l) (pure (done l)))) p t (pure b) c' s' →
+        past (active (heldIn b)) ≤ s' .count
+    by-bracket true e = step-fits at l _ (split (split e .two) .two) h
+    by-bracket false e = let w = split e in by-dot (w .value) (w .two)
 
-module _ {tk tv ns ls : List ℕ} (u c k : ℕ) (l : ActiveList) {r : Stepped} {ns' ls' : List ℕ}
-    (g : As stepped (stepping (ends l) u (row tk tv)) c (nodes ns ls k) r ns' ls') (z : Sized tk tv ns ls c k)
+module _ {tk tv ns : List ℕ} (u c k : ℕ) (l : ActiveList) {r : Stepped} {ns' : List ℕ}
+    (g : As stepped (stepping (ends l) u (row tk tv)) c (nodes ns k) r ns') (z : Sized tk tv ns c k)
     (h : past l ≤ k) where
   -- what the rules read is m
   step-after :
       (b : Step (Option Ends) (Option Ends)) {p j : ℕ} → r ≡ stepped .read b p j →
-      Sized tk tv ns' ls' p j × Round 0 c b p × (past (active (heldIn b)) ≤ j)
+      Sized tk tv ns' p j × Round 0 c b p × (past (active (heldIn b)) ≤ j)
   unfolding stepping
   step-after b q =
-      let (a, e) =
-      sized-after z (holding-stepped .plain)
-      (step-round (below (row tk tv)) (omega arith) (expression-moves (below (row tk tv)) (omega arith) u) (ends l) c)
-      g {a = b} q in (
-        a,
-        e,
-        stepped-fits (row tk tv) _ (ends l) (came-read (holding-stepped .plain) g {a = b} q) (rw (active-ends l) h),
-      )
+      let goes =
+      step-round (below (row tk tv)) (omega arith) (expression-moves (below (row tk tv)) (omega arith) u) (ends l) c in
+      let (a, e) = sized-after z (holding-stepped .plain) goes g {a = b} q in
+      let came = came-read (holding-stepped .plain) g {a = b} q in
+      let (_, _, w) = moved came goes (z .used) (z .at) in
+      (a, e, stepped-fits (row tk tv) _ (ends l) came (rw (active-ends l) (omega (arith, w .grew))))
 
   module _ {m : ActiveList} {p : TokenId} {j : ℕ} where
-    pub more-sized : r ≡ More m p j → Sized tk tv ns' ls' (p .0) j
+    pub more-sized : r ≡ More m p j → Sized tk tv ns' (p .0) j
     more-sized q = step-after (again (ends m)) (more-same q) .0
 
     pub more-fits : r ≡ More m p j → past m ≤ j
     more-fits q = let (a, b, e) = step-after (again (ends m)) (more-same q) in rw (active-ends m) at e
 
-    pub last-slots : r ≡ Last m p j → Slots ns' ls' j
+    pub last-slots : r ≡ Last m p j → Slots ns' j
     last-slots q = slots (step-after (done (ends m)) (last-same q) .0)
 
     pub last-fits : r ≡ Last m p j → past m ≤ j
     last-fits q = let (a, b, e) = step-after (done (ends m)) (last-same q) in rw (active-ends m) at e
 
 -- Between two steps: what is left of the reference, of whose steps so many were read.
-abbrev pub Steps : List ℕ → List ℕ → ℕ → ℕ → ℕ → ℕ → ℕ → Nodes → ℕ → ActiveList → ℕ → Nodes → Type 0
+abbrev pub Steps : List ℕ → List ℕ → ℕ → ℕ → ℕ → ℕ → ℕ → Words → ℕ → ActiveList → ℕ → Words → Type 0
 Steps tk tv u start depth name c₀ s₀ n l c s =
     Onto (within (dereferring start depth name) u (row tk tv)) c₀ s₀
-    (repeat (step columns (row tk tv) (expression columns (row tk tv) u)) (exceeded columns c₀)
+    (repeat (step words (row tk tv) (expression words (row tk tv) u)) (exceeded words c₀)
     (Limit.ReferenceDepth - n)
     (ends l) >>= λ m. derefEnd m start depth name) c s
 
 pub first-step :
-    (tk tv : List ℕ) (u start depth name c : ℕ) (s : Nodes) (l : ActiveList) → ends l ≡ none →
+    (tk tv : List ℕ) (u start depth name c : ℕ) (s : Words) (l : ActiveList) → ends l ≡ none →
     Steps tk tv u start depth name c s 0 l c s
 unfolding within dereferring Rules.stepped steps derefEnd
 first-step tk tv u start depth name c s l q = rw q (first _ (at-here _) then regroup _ _ _ _ _)
 
-module _ (tk tv : List ℕ) (u start depth name c₀ : ℕ) {s₀ : Nodes} (n : ℕ) (l : ActiveList) (c k : ℕ) {ks ls : List ℕ}
-    (h : Steps tk tv u start depth name c₀ s₀ n l c (nodes ks ls k)) where
+module _ (tk tv : List ℕ) (u start depth name c₀ : ℕ) {s₀ : Words} (n : ℕ) (l : ActiveList) (c k : ℕ) {ks : List ℕ}
+    (h : Steps tk tv u start depth name c₀ s₀ n l c (nodes ks k)) where
   pub steps-exceeded :
       Limit.ReferenceDepth ≤ n → {r : Parsed} → r ≡ refusal Refusal.MaximumParseDepthExceeded c₀ c c k →
-      Gives (within (dereferring start depth name) u (row tk tv)) c₀ s₀ r ks ls
+      Gives (within (dereferring start depth name) u (row tk tv)) c₀ s₀ r ks
   unfolding repeat exceeded
   steps-exceeded x e =
       let y : Limit.ReferenceDepth - n ≡ 0 = omega arith in
@@ -176,22 +170,22 @@ module _ (tk tv : List ℕ) (u start depth name c₀ : ℕ) {s₀ : Nodes} (n : 
 
     going :
         Onto (within (dereferring start depth name) u (row tk tv)) c₀ s₀
-        (repeat (step columns (row tk tv) (expression columns (row tk tv) u)) (exceeded columns c₀)
-        (suc (Limit.ReferenceDepth - (n + 1))) (ends l) >>= λ m. derefEnd m start depth name) c (nodes ks ls k)
+        (repeat (step words (row tk tv) (expression words (row tk tv) u)) (exceeded words c₀)
+        (suc (Limit.ReferenceDepth - (n + 1))) (ends l) >>= λ m. derefEnd m start depth name) c (nodes ks k)
     going = rw left at h
 
-    module _ {z : Stepped} {ks₁ ls₁ : List ℕ}
-        (g : As stepped (stepping (ends l) u (row tk tv)) c (nodes ks ls k) z ks₁ ls₁) where
+    module _ {z : Stepped} {ks₁ : List ℕ}
+        (g : As stepped (stepping (ends l) u (row tk tv)) c (nodes ks k) z ks₁) where
       pub steps-refused :
-          {r : Parsed} → z ≡ Stopped r → Gives (within (dereferring start depth name) u (row tk tv)) c₀ s₀ r ks₁ ls₁
+          {r : Parsed} → z ≡ Stopped r → Gives (within (dereferring start depth name) u (row tk tv)) c₀ s₀ r ks₁
       unfolding stepping
       steps-refused w =
           hands-on _ (going then first _ (round _ _ _ stays) then regroup _ _ _ _ _) (held holding-stepped g w)
 
       pub steps-read :
-          {m : ActiveList} {p : TokenId} {j : ℕ} → z ≡ Last m p j → {r : Parsed} {ks₂ ls₂ : List ℕ} →
-          Gives (derefEnd (ends m) start depth name) (p .0) (nodes ks₁ ls₁ j) r ks₂ ls₂ →
-          Gives (within (dereferring start depth name) u (row tk tv)) c₀ s₀ r ks₂ ls₂
+          {m : ActiveList} {p : TokenId} {j : ℕ} → z ≡ Last m p j → {r : Parsed} {ks₂ : List ℕ} →
+          Gives (derefEnd (ends m) start depth name) (p .0) (nodes ks₁ j) r ks₂ →
+          Gives (within (dereferring start depth name) u (row tk tv)) c₀ s₀ r ks₂
       unfolding stepping
       steps-read {m} w d =
           shows
@@ -200,7 +194,7 @@ module _ (tk tv : List ℕ) (u start depth name c₀ : ℕ) {s₀ : Nodes} (n : 
 
       pub next-step :
           {m : ActiveList} {p : TokenId} {j : ℕ} → z ≡ More m p j →
-          Steps tk tv u start depth name c₀ s₀ (n + 1) m (p .0) (nodes ks₁ ls₁ j)
+          Steps tk tv u start depth name c₀ s₀ (n + 1) m (p .0) (nodes ks₁ j)
       unfolding stepping
       next-step {m} w =
           going then first _ (round-again _ _ _

@@ -11,7 +11,8 @@ use Rattle.rules.specs.Codes.BaseToken as BaseToken
 use Rattle.rules.specs.Codes.ParseNode as ParseNode
 use Rattle.rules.specs.Codes.UnaryOp as UnaryOp
 use Rattle.rules.specs.Reading.{Rule, Row, Step, _>>=_, pure, choose}
-use Rattle.rules.specs.Columns.{Nodes, Ends, columns}
+use Rattle.rules.specs.Lists.{Ends}
+use Rattle.rules.specs.Words.{Words, words}
 use Rattle.rules.specs.Types.{type}
 use Rattle.rules.specs.Expressions.{prefix, closed, itemEnd, listItem, step, stepped, advanced, field, unary, singular}
 use Rattle.rules.specs.Expressions.{product, sum, expression}
@@ -22,49 +23,49 @@ prefixEnd token c =
     entry token (BaseToken.Pipe ⇒ (c + 1) ∷ BaseToken.Exclamation ⇒ (c + 1) ∷ BaseToken.Minus ⇒ (c + 1) ∷ []) c
 
 -- what follows the operand e of a unary, by its first token, which is at
-unfoldable pub unaryEnd : ℕ → ℕ → ℕ → Row → Rule Nodes ℕ
+unfoldable pub unaryEnd : ℕ → ℕ → ℕ → Row → Rule Words ℕ
 unaryEnd token at e row =
     choose token
-    (BaseToken.Pipe ⇒ closed columns row BaseToken.Pipe ParseNode.LengthOf e
-    ∷ BaseToken.Exclamation ⇒ prefix columns at UnaryOp.BitwiseComplement e
-    ∷ BaseToken.Minus ⇒ prefix columns at UnaryOp.Negative e
+    (BaseToken.Pipe ⇒ closed words row BaseToken.Pipe ParseNode.LengthOf e
+    ∷ BaseToken.Exclamation ⇒ prefix words at UnaryOp.BitwiseComplement e
+    ∷ BaseToken.Minus ⇒ prefix words at UnaryOp.Negative e
     ∷ [])
     (pure e)
 
-unfoldable pub sums : ℕ → Row → Rule Nodes ℕ
-sums unused row = sum columns row (expression columns row unused) (type columns row unused)
+unfoldable pub sums : ℕ → Row → Rule Words ℕ
+sums unused row = sum words row (expression words row unused) (type words row unused)
 
-unfoldable pub unaries : ℕ → Row → Rule Nodes ℕ
-unaries unused row = unary columns row (expression columns row unused) (type columns row unused)
+unfoldable pub unaries : ℕ → Row → Rule Words ℕ
+unaries unused row = unary words row (expression words row unused) (type words row unused)
 
 -- an operand of a sum, and of a product; if bare, a unary only
-unfoldable pub operand : Bool → ℕ → Row → Rule Nodes ℕ
+unfoldable pub operand : Bool → ℕ → Row → Rule Words ℕ
 operand bare unused row =
-    pick bare (unaries unused row) (product columns row (expression columns row unused) (type columns row unused))
+    pick bare (unaries unused row) (product words row (expression words row unused) (type words row unused))
 
-unfoldable pub factors : Bool → ℕ → Row → Rule Nodes ℕ
+unfoldable pub factors : Bool → ℕ → Row → Rule Words ℕ
 factors bare unused row =
-    pick bare (unaries unused row) (singular columns row (expression columns row unused) (type columns row unused))
+    pick bare (unaries unused row) (singular words row (expression words row unused) (type words row unused))
 
 -- a rule that holds expressions
-unfoldable pub within : Holds → ℕ → Row → Rule Nodes ℕ
-within m unused row = m row (expression columns row unused)
+unfoldable pub within : Holds → ℕ → Row → Rule Words ℕ
+within m unused row = m row (expression words row unused)
 
 unfoldable pub advancing : ℕ → Holds
-advancing left row expr = advanced columns row expr left
+advancing left row expr = advanced words row expr left
 
 unfoldable pub dereferring : ℕ → ℕ → ℕ → Holds
-dereferring start depth name row expr = stepped columns row expr start depth name
+dereferring start depth name row expr = stepped words row expr start depth name
 
 -- an item of a list, by its closing token, and what stands after it
-unfoldable pub listItems : ℕ → Counted → ℕ → Row → Rule Nodes (Step Counted Counted)
+unfoldable pub listItems : ℕ → Counted → ℕ → Row → Rule Words (Step Counted Counted)
 listItems closing l unused row =
-    let expr = expression columns row unused in
-    listItem columns row closing (pick (eqb closing BaseToken.BraceRight) (field columns row expr) expr) l
+    let expr = expression words row unused in
+    listItem words row closing (pick (eqb closing BaseToken.BraceRight) (field words row expr) expr) l
 
-unfoldable pub fields : Counted → ℕ → Row → Rule Nodes (Step Counted Counted)
+unfoldable pub fields : Counted → ℕ → Row → Rule Words (Step Counted Counted)
 fields l unused row =
-    field columns row (expression columns row unused) >>= itemEnd columns row BaseToken.BraceRight l
+    field words row (expression words row unused) >>= itemEnd words row BaseToken.BraceRight l
 
-unfoldable pub stepping : Option Ends → ℕ → Row → Rule Nodes (Step (Option Ends) (Option Ends))
-stepping l unused row = step columns row (expression columns row unused) l
+unfoldable pub stepping : Option Ends → ℕ → Row → Rule Words (Step (Option Ends) (Option Ends))
+stepping l unused row = step words row (expression words row unused) l

@@ -8,12 +8,13 @@ ghost use lib.Dec.{eqb};
 ghost use mathlib.Core.Bool.{false};
 ghost use Rattle.rules.specs.Codes.Limit as Most;
 ghost use Rattle.rules.specs.Codes.BaseToken as Token;
-ghost use Rattle.rules.specs.Columns.{columns};
+ghost use Rattle.rules.specs.Words.{words};
 ghost use Rattle.rules.specs.Expressions.{structural, expression};
-ghost use Rattle.codes.specs.Answer.{As, Gives, Untyped, Sized, parsed, row, nodes};
+ghost use Rattle.codes.specs.Answer.{parsed, row};
+ghost use Rattle.codes.specs.Words.{As, Gives, Untyped, Sized, nodes};
 ghost use Rattle.nodes.specs.Answer.{Slots, ends, past};
 ghost use Rattle.references.specs.Answer.{stepped};
-ghost use Rattle.lists.specs.Answer.{ownerOf, turned};
+ghost use Rattle.lists.specs.Answer.{ownerOf, turned, Small};
 ghost use Rattle.openings.specs.Answer.{primaryOr, listed, referred, grouped};
 ghost use Rattle.expressions.specs.Answer.{prefixEnd, unaryEnd, sums, operand, factors, unaries, within, advancing, dereferring, listItems, fields, stepping};
 use casts::finish_singular;
@@ -80,23 +81,21 @@ fn after_prefix(cursor: TokenId, token: u8) -> TokenId
 // After the operand of a unary: the nodes of the `!` or `-` at `at`, or the closing `|` and its node, by the token there.
 fn finish_unary(
     kinds: &[u8],
-    node_kinds: &mut [u8],
-    node_loads: &mut [u32],
+    node_words: &mut [u32],
     cursor: TokenId,
     count: u32,
     root: NodeId,
     token: u8,
     at: TokenId,
 ) -> Parsed
-    requires { ⌜ (cursor .0 ≤ Most.Tokens + 1) × Slots (now «node_kinds») (now «node_loads») count ⌝ }
-    ensures { λ r. ⌜ Untyped parsed (unaryEnd token (at .0) (root .0)) (now (kinds .entry)) (cursor .0) (nodes (now («node_kinds» .entry)) (now («node_loads» .entry)) count) r (now («node_kinds» .exit)) (now («node_loads» .exit)) ⌝ }
+    requires { ⌜ (cursor .0 ≤ Most.Tokens + 1) × Slots (now «node_words») count × (at .0 ≤ Most.Load) ⌝ }
+    ensures { λ r. ⌜ Untyped parsed (unaryEnd token (at .0) (root .0)) (now (kinds .entry)) (cursor .0) (nodes (now («node_words» .entry)) count) r (now («node_words» .exit)) ⌝ }
 {
     match token {
         BaseToken::Pipe => {
             push_closed(
                 kinds,
-                node_kinds,
-                node_loads,
+                node_words,
                 cursor,
                 count,
                 BaseToken::Pipe,
@@ -106,11 +105,11 @@ fn finish_unary(
         }
         BaseToken::Exclamation => {
             let op = UnaryOp::BitwiseComplement;
-            push_prefix(node_kinds, node_loads, cursor, count, op, at, root)
+            push_prefix(node_words, cursor, count, op, at, root)
         }
         BaseToken::Minus => {
             let op = UnaryOp::Negative;
-            push_prefix(node_kinds, node_loads, cursor, count, op, at, root)
+            push_prefix(node_words, cursor, count, op, at, root)
         }
         _ => Parsed::Node {
             root,
@@ -125,14 +124,13 @@ fn finish_unary(
 pub fn parse_expression(
     kinds: &[u8],
     types: &[u8],
-    node_kinds: &mut [u8],
-    node_loads: &mut [u32],
+    node_words: &mut [u32],
     cursor: TokenId,
     count: u32,
     unused: u32,
 ) -> Parsed
-    requires { ⌜ Sized (now kinds) (now types) (now «node_kinds») (now «node_loads») (cursor .0) count ⌝ }
-    ensures { λ r. ⌜ Gives (expression columns (row (now (kinds .entry)) (now (types .entry))) unused) (cursor .0) (nodes (now («node_kinds» .entry)) (now («node_loads» .entry)) count) r (now («node_kinds» .exit)) (now («node_loads» .exit)) ⌝ }
+    requires { ⌜ Sized (now kinds) (now types) (now «node_words») (cursor .0) count ⌝ }
+    ensures { λ r. ⌜ Gives (expression words (row (now (kinds .entry)) (now (types .entry))) unused) (cursor .0) (nodes (now («node_words» .entry)) count) r (now («node_words» .exit)) ⌝ }
 {
     if unused == 0 {
         return Parsed::Refused {
@@ -147,10 +145,10 @@ pub fn parse_expression(
         let at = cursor.0;
         let next = TokenId(at + 1);
         let kind = ParseNode::UntypedIntegerLiteral;
-        return push(node_kinds, node_loads, next, count, kind, at);
+        return push(node_words, next, count, kind, at);
     }
     let left = unused - 1;
-    addition(kinds, types, node_kinds, node_loads, cursor, count, left)
+    addition(kinds, types, node_words, cursor, count, left)
 }
 
 // Rust: parse_addition. Products joined by `+` or `-`, and what may follow them. The Rust reads on after a bitwise
@@ -159,14 +157,13 @@ pub fn parse_expression(
 fn addition(
     kinds: &[u8],
     types: &[u8],
-    node_kinds: &mut [u8],
-    node_loads: &mut [u32],
+    node_words: &mut [u32],
     cursor: TokenId,
     count: u32,
     unused: u32,
 ) -> Parsed
-    requires { ⌜ Sized (now kinds) (now types) (now «node_kinds») (now «node_loads») (cursor .0) count ⌝ }
-    ensures { λ r. ⌜ Gives (sums unused (row (now (kinds .entry)) (now (types .entry)))) (cursor .0) (nodes (now («node_kinds» .entry)) (now («node_loads» .entry)) count) r (now («node_kinds» .exit)) (now («node_loads» .exit)) ⌝ }
+    requires { ⌜ Sized (now kinds) (now types) (now «node_words») (cursor .0) count ⌝ }
+    ensures { λ r. ⌜ Gives (sums unused (row (now (kinds .entry)) (now (types .entry)))) (cursor .0) (nodes (now («node_words» .entry)) count) r (now («node_words» .exit)) ⌝ }
 {
     let mut pending = no_pending();
     let mut place = cursor.0;
@@ -174,7 +171,7 @@ fn addition(
     loop {
         let at = TokenId(place);
         let bare = takes_unary(pending);
-        let right = multiplication(kinds, types, node_kinds, node_loads, at, used, unused, bare);
+        let right = multiplication(kinds, types, node_words, at, used, unused, bare);
         let Parsed::Node {
             root,
             cursor: after,
@@ -183,7 +180,7 @@ fn addition(
         else {
             return right;
         };
-        match join_term(kinds, node_kinds, node_loads, after, more, root, pending) {
+        match join_term(kinds, node_words, after, more, root, pending) {
             Joint::More {
                 pending: next,
                 cursor: from,
@@ -215,22 +212,21 @@ fn addition(
 fn multiplication(
     kinds: &[u8],
     types: &[u8],
-    node_kinds: &mut [u8],
-    node_loads: &mut [u32],
+    node_words: &mut [u32],
     cursor: TokenId,
     count: u32,
     unused: u32,
     bare: bool,
 ) -> Parsed
-    requires { ⌜ Sized (now kinds) (now types) (now «node_kinds») (now «node_loads») (cursor .0) count ⌝ }
-    ensures { λ r. ⌜ Gives (operand bare unused (row (now (kinds .entry)) (now (types .entry)))) (cursor .0) (nodes (now («node_kinds» .entry)) (now («node_loads» .entry)) count) r (now («node_kinds» .exit)) (now («node_loads» .exit)) ⌝ }
+    requires { ⌜ Sized (now kinds) (now types) (now «node_words») (cursor .0) count ⌝ }
+    ensures { λ r. ⌜ Gives (operand bare unused (row (now (kinds .entry)) (now (types .entry)))) (cursor .0) (nodes (now («node_words» .entry)) count) r (now («node_words» .exit)) ⌝ }
 {
     let mut pending = no_pending();
     let mut place = cursor.0;
     let mut used = count;
     loop {
         let at = TokenId(place);
-        let right = singular(kinds, types, node_kinds, node_loads, at, used, unused, bare);
+        let right = singular(kinds, types, node_words, at, used, unused, bare);
         let Parsed::Node {
             root,
             cursor: after,
@@ -242,7 +238,7 @@ fn multiplication(
         if bare {
             return right;
         }
-        match join_factor(kinds, node_kinds, node_loads, after, more, root, pending) {
+        match join_factor(kinds, node_words, after, more, root, pending) {
             Joint::More {
                 pending: next,
                 cursor: from,
@@ -274,20 +270,22 @@ fn multiplication(
 fn singular(
     kinds: &[u8],
     types: &[u8],
-    node_kinds: &mut [u8],
-    node_loads: &mut [u32],
+    node_words: &mut [u32],
     cursor: TokenId,
     count: u32,
     unused: u32,
     bare: bool,
 ) -> Parsed
-    requires { ⌜ Sized (now kinds) (now types) (now «node_kinds») (now «node_loads») (cursor .0) count ⌝ }
-    ensures { λ r. ⌜ Gives (factors bare unused (row (now (kinds .entry)) (now (types .entry)))) (cursor .0) (nodes (now («node_kinds» .entry)) (now («node_loads» .entry)) count) r (now («node_kinds» .exit)) (now («node_loads» .exit)) ⌝ }
+    requires { ⌜ Sized (now kinds) (now types) (now «node_words») (cursor .0) count ⌝ }
+    ensures { λ r. ⌜ Gives (factors bare unused (row (now (kinds .entry)) (now (types .entry)))) (cursor .0) (nodes (now («node_words» .entry)) count) r (now («node_words» .exit)) ⌝ }
 {
     let cast = optional_cast(kinds, cursor, bare);
     let from = cast.cursor;
     let found = cast.found;
-    let operand = unary(kinds, types, node_kinds, node_loads, from, count, unused);
+    let operand = unary(kinds, types, node_words, from, count, unused);
+    if bare {
+        return operand;
+    }
     let Parsed::Node {
         root,
         cursor: after,
@@ -296,14 +294,10 @@ fn singular(
     else {
         return operand;
     };
-    if bare {
-        return operand;
-    }
     finish_singular(
         kinds,
         types,
-        node_kinds,
-        node_loads,
+        node_words,
         after,
         used,
         unused,
@@ -313,35 +307,32 @@ fn singular(
     )
 }
 
-// Rust: parse_unary_expression. A size, a length, or a primary with `!` or `-` before it.
+// Rust: parse_unary_expression. A size, a length, or a primary with `!` or `-` before it. A decimal number is the usual
+// operand, and is read without the search for what opens a primary.
 fn unary(
     kinds: &[u8],
     types: &[u8],
-    node_kinds: &mut [u8],
-    node_loads: &mut [u32],
+    node_words: &mut [u32],
     cursor: TokenId,
     count: u32,
     unused: u32,
 ) -> Parsed
-    requires { ⌜ Sized (now kinds) (now types) (now «node_kinds») (now «node_loads») (cursor .0) count ⌝ }
-    ensures { λ r. ⌜ Gives (unaries unused (row (now (kinds .entry)) (now (types .entry)))) (cursor .0) (nodes (now («node_kinds» .entry)) (now («node_loads» .entry)) count) r (now («node_kinds» .exit)) (now («node_loads» .exit)) ⌝ }
+    requires { ⌜ Sized (now kinds) (now types) (now «node_words») (cursor .0) count ⌝ }
+    ensures { λ r. ⌜ Gives (unaries unused (row (now (kinds .entry)) (now (types .entry)))) (cursor .0) (nodes (now («node_words» .entry)) count) r (now («node_words» .exit)) ⌝ }
 {
     let token = peek(kinds, cursor);
     if token == BaseToken::PipeForType {
-        return parse_size_of(kinds, types, node_kinds, node_loads, cursor, count, unused);
+        return parse_size_of(kinds, types, node_words, cursor, count, unused);
     }
     let from = after_prefix(cursor, token);
+    if token == BaseToken::NakedDecimal {
+        return parse_literal(kinds, types, node_words, cursor, count, token);
+    }
     let piped = token == BaseToken::Pipe;
-    let operand = primary(
-        kinds,
-        types,
-        node_kinds,
-        node_loads,
-        from,
-        count,
-        unused,
-        piped,
-    );
+    let operand = primary(kinds, types, node_words, from, count, unused, piped);
+    if from.0 == cursor.0 {
+        return operand;
+    }
     let Parsed::Node {
         root,
         cursor: after,
@@ -350,66 +341,34 @@ fn unary(
     else {
         return operand;
     };
-    if from.0 == cursor.0 {
-        return operand;
-    }
-    finish_unary(
-        kinds,
-        node_kinds,
-        node_loads,
-        after,
-        used,
-        root,
-        token,
-        cursor,
-    )
+    finish_unary(kinds, node_words, after, used, root, token, cursor)
 }
 
 // Rust: parse_primary_expression. A primary; or, after a pipe, a reference.
 fn primary(
     kinds: &[u8],
     types: &[u8],
-    node_kinds: &mut [u8],
-    node_loads: &mut [u32],
+    node_words: &mut [u32],
     cursor: TokenId,
     count: u32,
     unused: u32,
     piped: bool,
 ) -> Parsed
-    requires { ⌜ Sized (now kinds) (now types) (now «node_kinds») (now «node_loads») (cursor .0) count ⌝ }
-    ensures { λ r. ⌜ Gives (within (primaryOr piped) unused (row (now (kinds .entry)) (now (types .entry)))) (cursor .0) (nodes (now («node_kinds» .entry)) (now («node_loads» .entry)) count) r (now («node_kinds» .exit)) (now («node_loads» .exit)) ⌝ }
+    requires { ⌜ Sized (now kinds) (now types) (now «node_words») (cursor .0) count ⌝ }
+    ensures { λ r. ⌜ Gives (within (primaryOr piped) unused (row (now (kinds .entry)) (now (types .entry)))) (cursor .0) (nodes (now («node_words» .entry)) count) r (now («node_words» .exit)) ⌝ }
 {
     match parse_opening(kinds, cursor, count, piped) {
         Opening::List(inside, used, owner) => {
-            rest_of_list(
-                kinds,
-                types,
-                node_kinds,
-                node_loads,
-                inside,
-                used,
-                unused,
-                owner,
-            )
+            rest_of_list(kinds, types, node_words, inside, used, unused, owner)
         }
         Opening::Fields(inside, used, name) => {
-            rest_of_fields(
-                kinds,
-                types,
-                node_kinds,
-                node_loads,
-                inside,
-                used,
-                unused,
-                name,
-            )
+            rest_of_fields(kinds, types, node_words, inside, used, unused, name)
         }
         Opening::Reference(after, used, pointer, depth, name) => {
             reference(
                 kinds,
                 types,
-                node_kinds,
-                node_loads,
+                node_words,
                 after,
                 used,
                 unused,
@@ -419,13 +378,9 @@ fn primary(
                 pointer,
             )
         }
-        Opening::Name(after, used) => push_name(node_kinds, node_loads, after, used, cursor),
-        Opening::Group(inside, used) => {
-            group(kinds, types, node_kinds, node_loads, inside, used, unused)
-        }
-        Opening::Literal(token) => {
-            parse_literal(kinds, types, node_kinds, node_loads, cursor, count, token)
-        }
+        Opening::Name(after, used) => push_name(node_words, after, used, cursor),
+        Opening::Group(inside, used) => { group(kinds, types, node_words, inside, used, unused) }
+        Opening::Literal(token) => { parse_literal(kinds, types, node_words, cursor, count, token) }
         Opening::Refused(refusal) => refusal,
     }
 }
@@ -434,16 +389,15 @@ fn primary(
 fn group(
     kinds: &[u8],
     types: &[u8],
-    node_kinds: &mut [u8],
-    node_loads: &mut [u32],
+    node_words: &mut [u32],
     cursor: TokenId,
     count: u32,
     unused: u32,
 ) -> Parsed
-    requires { ⌜ Sized (now kinds) (now types) (now «node_kinds») (now «node_loads») (cursor .0) count ⌝ }
-    ensures { λ r. ⌜ Gives (within grouped unused (row (now (kinds .entry)) (now (types .entry)))) (cursor .0) (nodes (now («node_kinds» .entry)) (now («node_loads» .entry)) count) r (now («node_kinds» .exit)) (now («node_loads» .exit)) ⌝ }
+    requires { ⌜ Sized (now kinds) (now types) (now «node_words») (cursor .0) count ⌝ }
+    ensures { λ r. ⌜ Gives (within grouped unused (row (now (kinds .entry)) (now (types .entry)))) (cursor .0) (nodes (now («node_words» .entry)) count) r (now («node_words» .exit)) ⌝ }
 {
-    let inner = parse_expression(kinds, types, node_kinds, node_loads, cursor, count, unused);
+    let inner = parse_expression(kinds, types, node_words, cursor, count, unused);
     let Parsed::Node {
         root,
         cursor: after,
@@ -454,8 +408,7 @@ fn group(
     };
     push_closed(
         kinds,
-        node_kinds,
-        node_loads,
+        node_words,
         after,
         used,
         BaseToken::ParenRight,
@@ -468,8 +421,7 @@ fn group(
 fn reference(
     kinds: &[u8],
     types: &[u8],
-    node_kinds: &mut [u8],
-    node_loads: &mut [u32],
+    node_words: &mut [u32],
     cursor: TokenId,
     count: u32,
     unused: u32,
@@ -478,14 +430,13 @@ fn reference(
     name: TokenId,
     pointer: bool,
 ) -> Parsed
-    requires { ⌜ Sized (now kinds) (now types) (now «node_kinds») (now «node_loads») (cursor .0) count ⌝ }
-    ensures { λ r. ⌜ Gives (within (referred (start .0) depth (name .0) pointer) unused (row (now (kinds .entry)) (now (types .entry)))) (cursor .0) (nodes (now («node_kinds» .entry)) (now («node_loads» .entry)) count) r (now («node_kinds» .exit)) (now («node_loads» .exit)) ⌝ }
+    requires { ⌜ Sized (now kinds) (now types) (now «node_words») (cursor .0) count × (start .0 ≤ Most.Load) × (depth ≤ Most.Load) × (name .0 ≤ Most.Load) ⌝ }
+    ensures { λ r. ⌜ Gives (within (referred (start .0) depth (name .0) pointer) unused (row (now (kinds .entry)) (now (types .entry)))) (cursor .0) (nodes (now («node_words» .entry)) count) r (now («node_words» .exit)) ⌝ }
 {
     let named = deref_steps(
         kinds,
         types,
-        node_kinds,
-        node_loads,
+        node_words,
         cursor,
         count,
         unused,
@@ -502,16 +453,7 @@ fn reference(
         return named;
     };
     if pointer {
-        advance(
-            kinds,
-            types,
-            node_kinds,
-            node_loads,
-            after,
-            used,
-            unused,
-            root,
-        )
+        advance(kinds, types, node_words, after, used, unused, root)
     } else {
         named
     }
@@ -521,15 +463,14 @@ fn reference(
 fn advance(
     kinds: &[u8],
     types: &[u8],
-    node_kinds: &mut [u8],
-    node_loads: &mut [u32],
+    node_words: &mut [u32],
     cursor: TokenId,
     count: u32,
     unused: u32,
     left: NodeId,
 ) -> Parsed
-    requires { ⌜ Sized (now kinds) (now types) (now «node_kinds») (now «node_loads») (cursor .0) count ⌝ }
-    ensures { λ r. ⌜ Gives (within (advancing (left .0)) unused (row (now (kinds .entry)) (now (types .entry)))) (cursor .0) (nodes (now («node_kinds» .entry)) (now («node_loads» .entry)) count) r (now («node_kinds» .exit)) (now («node_loads» .exit)) ⌝ }
+    requires { ⌜ Sized (now kinds) (now types) (now «node_words») (cursor .0) count × (left .0 ≤ Most.Load) ⌝ }
+    ensures { λ r. ⌜ Gives (within (advancing (left .0)) unused (row (now (kinds .entry)) (now (types .entry)))) (cursor .0) (nodes (now («node_words» .entry)) count) r (now («node_words» .exit)) ⌝ }
 {
     let dots = consume_optional(kinds, cursor, BaseToken::Dots);
     let from = dots.cursor;
@@ -540,7 +481,7 @@ fn advance(
             count,
         };
     }
-    let offset = parse_expression(kinds, types, node_kinds, node_loads, from, count, unused);
+    let offset = parse_expression(kinds, types, node_words, from, count, unused);
     let Parsed::Node {
         root,
         cursor: after,
@@ -550,7 +491,7 @@ fn advance(
         return offset;
     };
     let op = BinaryOp::AdvancePointer;
-    push_binary(node_kinds, node_loads, after, used, left, op, cursor, root)
+    push_binary(node_words, after, used, left, op, cursor, root)
 }
 
 // Arguments or elements, whose opening token is taken. The Rust has a loop for each, in parse_rest_of_arguments and
@@ -558,15 +499,14 @@ fn advance(
 fn rest_of_list(
     kinds: &[u8],
     types: &[u8],
-    node_kinds: &mut [u8],
-    node_loads: &mut [u32],
+    node_words: &mut [u32],
     cursor: TokenId,
     count: u32,
     unused: u32,
     owner: Owner,
 ) -> Parsed
-    requires { ⌜ Sized (now kinds) (now types) (now «node_kinds») (now «node_loads») (cursor .0) count ⌝ }
-    ensures { λ r. ⌜ Gives (within (listed (ownerOf owner)) unused (row (now (kinds .entry)) (now (types .entry)))) (cursor .0) (nodes (now («node_kinds» .entry)) (now («node_loads» .entry)) count) r (now («node_kinds» .exit)) (now («node_loads» .exit)) ⌝ }
+    requires { ⌜ Sized (now kinds) (now types) (now «node_words») (cursor .0) count × Small owner ⌝ }
+    ensures { λ r. ⌜ Gives (within (listed (ownerOf owner)) unused (row (now (kinds .entry)) (now (types .entry)))) (cursor .0) (nodes (now («node_words» .entry)) count) r (now («node_words» .exit)) ⌝ }
 {
     let closing = closing_of(owner);
     let mut list = start_list();
@@ -578,8 +518,7 @@ fn rest_of_list(
         match item(
             kinds,
             types,
-            node_kinds,
-            node_loads,
+            node_words,
             at,
             used,
             unused,
@@ -604,7 +543,7 @@ fn rest_of_list(
                 cursor: after,
                 count: more,
             } => {
-                return finish_list(node_kinds, node_loads, after, more, whole, number, owner);
+                return finish_list(node_words, after, more, whole, number, owner);
             }
             Turn::Refused { refusal } => {
                 return refusal;
@@ -617,8 +556,7 @@ fn rest_of_list(
 fn item(
     kinds: &[u8],
     types: &[u8],
-    node_kinds: &mut [u8],
-    node_loads: &mut [u32],
+    node_words: &mut [u32],
     cursor: TokenId,
     count: u32,
     unused: u32,
@@ -626,8 +564,8 @@ fn item(
     items: u32,
     closing: u8,
 ) -> Turn
-    requires { ⌜ Sized (now kinds) (now types) (now «node_kinds») (now «node_loads») (cursor .0) count × (past list ≤ count) × (items ≤ count) × (eqb closing Token.BraceRight ≡ false) ⌝ }
-    ensures { λ r. ⌜ As turned (listItems closing (ends list, items) unused (row (now (kinds .entry)) (now (types .entry)))) (cursor .0) (nodes (now («node_kinds» .entry)) (now («node_loads» .entry)) count) r (now («node_kinds» .exit)) (now («node_loads» .exit)) ⌝ }
+    requires { ⌜ Sized (now kinds) (now types) (now «node_words») (cursor .0) count × (past list ≤ count) × (items ≤ count) × (eqb closing Token.BraceRight ≡ false) ⌝ }
+    ensures { λ r. ⌜ As turned (listItems closing (ends list, items) unused (row (now (kinds .entry)) (now (types .entry)))) (cursor .0) (nodes (now («node_words» .entry)) count) r (now («node_words» .exit)) ⌝ }
 {
     let end = consume_optional(kinds, cursor, closing);
     let from = end.cursor;
@@ -639,7 +577,7 @@ fn item(
             count,
         };
     }
-    let item = parse_expression(kinds, types, node_kinds, node_loads, cursor, count, unused);
+    let item = parse_expression(kinds, types, node_words, cursor, count, unused);
     let Parsed::Node {
         root,
         cursor: after,
@@ -648,32 +586,21 @@ fn item(
     else {
         return Turn::Refused { refusal: item };
     };
-    finish_item(
-        kinds,
-        node_kinds,
-        node_loads,
-        after,
-        used,
-        list,
-        items,
-        closing,
-        root,
-    )
+    finish_item(kinds, node_words, after, used, list, items, closing, root)
 }
 
 // The fields of the struct or word at `name`, whose opening brace is taken. Rust: parse_rest_of_structural.
 fn rest_of_fields(
     kinds: &[u8],
     types: &[u8],
-    node_kinds: &mut [u8],
-    node_loads: &mut [u32],
+    node_words: &mut [u32],
     cursor: TokenId,
     count: u32,
     unused: u32,
     name: TokenId,
 ) -> Parsed
-    requires { ⌜ Sized (now kinds) (now types) (now «node_kinds») (now «node_loads») (cursor .0) count ⌝ }
-    ensures { λ r. ⌜ Gives (within (listed (structural (name .0))) unused (row (now (kinds .entry)) (now (types .entry)))) (cursor .0) (nodes (now («node_kinds» .entry)) (now («node_loads» .entry)) count) r (now («node_kinds» .exit)) (now («node_loads» .exit)) ⌝ }
+    requires { ⌜ Sized (now kinds) (now types) (now «node_words») (cursor .0) count × (name .0 ≤ Most.Load) ⌝ }
+    ensures { λ r. ⌜ Gives (within (listed (structural (name .0))) unused (row (now (kinds .entry)) (now (types .entry)))) (cursor .0) (nodes (now («node_words» .entry)) count) r (now («node_words» .exit)) ⌝ }
 {
     let mut list = start_list();
     let mut items: u32 = 0;
@@ -681,17 +608,7 @@ fn rest_of_fields(
     let mut used = count;
     loop {
         let at = TokenId(place);
-        match next_field(
-            kinds,
-            types,
-            node_kinds,
-            node_loads,
-            at,
-            used,
-            unused,
-            list,
-            items,
-        ) {
+        match next_field(kinds, types, node_words, at, used, unused, list, items) {
             Turn::More {
                 list: longer,
                 items: number,
@@ -709,7 +626,7 @@ fn rest_of_fields(
                 cursor: after,
                 count: more,
             } => {
-                return finish_fields(node_kinds, node_loads, after, more, whole, number, name);
+                return finish_fields(node_words, after, more, whole, number, name);
             }
             Turn::Refused { refusal } => {
                 return refusal;
@@ -722,16 +639,15 @@ fn rest_of_fields(
 fn next_field(
     kinds: &[u8],
     types: &[u8],
-    node_kinds: &mut [u8],
-    node_loads: &mut [u32],
+    node_words: &mut [u32],
     cursor: TokenId,
     count: u32,
     unused: u32,
     list: ActiveList,
     items: u32,
 ) -> Turn
-    requires { ⌜ Sized (now kinds) (now types) (now «node_kinds») (now «node_loads») (cursor .0) count × (past list ≤ count) × (items ≤ count) ⌝ }
-    ensures { λ r. ⌜ As turned (listItems Token.BraceRight (ends list, items) unused (row (now (kinds .entry)) (now (types .entry)))) (cursor .0) (nodes (now («node_kinds» .entry)) (now («node_loads» .entry)) count) r (now («node_kinds» .exit)) (now («node_loads» .exit)) ⌝ }
+    requires { ⌜ Sized (now kinds) (now types) (now «node_words») (cursor .0) count × (past list ≤ count) × (items ≤ count) ⌝ }
+    ensures { λ r. ⌜ As turned (listItems Token.BraceRight (ends list, items) unused (row (now (kinds .entry)) (now (types .entry)))) (cursor .0) (nodes (now («node_words» .entry)) count) r (now («node_words» .exit)) ⌝ }
 {
     let end = consume_optional(kinds, cursor, BaseToken::BraceRight);
     let from = end.cursor;
@@ -743,33 +659,22 @@ fn next_field(
             count,
         };
     }
-    field(
-        kinds,
-        types,
-        node_kinds,
-        node_loads,
-        cursor,
-        count,
-        unused,
-        list,
-        items,
-    )
+    field(kinds, types, node_words, cursor, count, unused, list, items)
 }
 
 // A field: a name, and a colon with an expression or nothing; and what stands after it.
 fn field(
     kinds: &[u8],
     types: &[u8],
-    node_kinds: &mut [u8],
-    node_loads: &mut [u32],
+    node_words: &mut [u32],
     cursor: TokenId,
     count: u32,
     unused: u32,
     list: ActiveList,
     items: u32,
 ) -> Turn
-    requires { ⌜ Sized (now kinds) (now types) (now «node_kinds») (now «node_loads») (cursor .0) count × (past list ≤ count) × (items ≤ count) ⌝ }
-    ensures { λ r. ⌜ As turned (fields (ends list, items) unused (row (now (kinds .entry)) (now (types .entry)))) (cursor .0) (nodes (now («node_kinds» .entry)) (now («node_loads» .entry)) count) r (now («node_kinds» .exit)) (now («node_loads» .exit)) ⌝ }
+    requires { ⌜ Sized (now kinds) (now types) (now «node_words») (cursor .0) count × (past list ≤ count) × (items ≤ count) ⌝ }
+    ensures { λ r. ⌜ As turned (fields (ends list, items) unused (row (now (kinds .entry)) (now (types .entry)))) (cursor .0) (nodes (now («node_words» .entry)) count) r (now («node_words» .exit)) ⌝ }
 {
     match consume(kinds, cursor, count, BaseToken::Identifier) {
         Consumed::Next {
@@ -779,18 +684,9 @@ fn field(
             let colon = consume_optional(kinds, after, BaseToken::Colon);
             let from = colon.cursor;
             if !colon.found {
-                return finish_shorthand(
-                    kinds,
-                    node_kinds,
-                    node_loads,
-                    after,
-                    same,
-                    list,
-                    items,
-                    cursor,
-                );
+                return finish_shorthand(kinds, node_words, after, same, list, items, cursor);
             }
-            let value = parse_expression(kinds, types, node_kinds, node_loads, from, same, unused);
+            let value = parse_expression(kinds, types, node_words, from, same, unused);
             let Parsed::Node {
                 root,
                 cursor: end,
@@ -799,17 +695,7 @@ fn field(
             else {
                 return Turn::Refused { refusal: value };
             };
-            finish_field(
-                kinds,
-                node_kinds,
-                node_loads,
-                end,
-                used,
-                list,
-                items,
-                cursor,
-                root,
-            )
+            finish_field(kinds, node_words, end, used, list, items, cursor, root)
         }
         Consumed::Wrong { refusal } => Turn::Refused { refusal },
     }
@@ -819,8 +705,7 @@ fn field(
 fn deref_steps(
     kinds: &[u8],
     types: &[u8],
-    node_kinds: &mut [u8],
-    node_loads: &mut [u32],
+    node_words: &mut [u32],
     cursor: TokenId,
     count: u32,
     unused: u32,
@@ -828,8 +713,8 @@ fn deref_steps(
     depth: u32,
     name: TokenId,
 ) -> Parsed
-    requires { ⌜ Sized (now kinds) (now types) (now «node_kinds») (now «node_loads») (cursor .0) count ⌝ }
-    ensures { λ r. ⌜ Gives (within (dereferring (start .0) depth (name .0)) unused (row (now (kinds .entry)) (now (types .entry)))) (cursor .0) (nodes (now («node_kinds» .entry)) (now («node_loads» .entry)) count) r (now («node_kinds» .exit)) (now («node_loads» .exit)) ⌝ }
+    requires { ⌜ Sized (now kinds) (now types) (now «node_words») (cursor .0) count × (start .0 ≤ Most.Load) × (depth ≤ Most.Load) × (name .0 ≤ Most.Load) ⌝ }
+    ensures { λ r. ⌜ Gives (within (dereferring (start .0) depth (name .0)) unused (row (now (kinds .entry)) (now (types .entry)))) (cursor .0) (nodes (now («node_words» .entry)) count) r (now («node_words» .exit)) ⌝ }
 {
     let mut list = start_list();
     let mut steps: u32 = 0;
@@ -837,7 +722,7 @@ fn deref_steps(
     let mut used = count;
     while steps < Limit::ReferenceDepth {
         let at = TokenId(place);
-        match step(kinds, types, node_kinds, node_loads, at, used, unused, list) {
+        match step(kinds, types, node_words, at, used, unused, list) {
             Stepped::More {
                 list: longer,
                 cursor: after,
@@ -852,7 +737,7 @@ fn deref_steps(
                 cursor: end,
                 count: more,
             } => {
-                return push_deref(node_kinds, node_loads, end, more, whole, start, depth, name);
+                return push_deref(node_words, end, more, whole, start, depth, name);
             }
             Stepped::Refused { refusal } => {
                 return refusal;
@@ -867,21 +752,20 @@ fn deref_steps(
 fn step(
     kinds: &[u8],
     types: &[u8],
-    node_kinds: &mut [u8],
-    node_loads: &mut [u32],
+    node_words: &mut [u32],
     cursor: TokenId,
     count: u32,
     unused: u32,
     list: ActiveList,
 ) -> Stepped
-    requires { ⌜ Sized (now kinds) (now types) (now «node_kinds») (now «node_loads») (cursor .0) count × (past list ≤ count) ⌝ }
-    ensures { λ r. ⌜ As stepped (stepping (ends list) unused (row (now (kinds .entry)) (now (types .entry)))) (cursor .0) (nodes (now («node_kinds» .entry)) (now («node_loads» .entry)) count) r (now («node_kinds» .exit)) (now («node_loads» .exit)) ⌝ }
+    requires { ⌜ Sized (now kinds) (now types) (now «node_words») (cursor .0) count × (past list ≤ count) ⌝ }
+    ensures { λ r. ⌜ As stepped (stepping (ends list) unused (row (now (kinds .entry)) (now (types .entry)))) (cursor .0) (nodes (now («node_words» .entry)) count) r (now («node_words» .exit)) ⌝ }
 {
     let at = cursor.0;
     let next = TokenId(at + 1);
     match peek(kinds, cursor) {
         BaseToken::BracketLeft => {
-            let index = parse_expression(kinds, types, node_kinds, node_loads, next, count, unused);
+            let index = parse_expression(kinds, types, node_words, next, count, unused);
             let Parsed::Node {
                 root,
                 cursor: after,
@@ -890,9 +774,9 @@ fn step(
             else {
                 return Stepped::Refused { refusal: index };
             };
-            finish_element(kinds, node_kinds, node_loads, after, used, list, root)
+            finish_element(kinds, node_words, after, used, list, root)
         }
-        BaseToken::Dot => parse_member(kinds, node_kinds, node_loads, next, count, list),
+        BaseToken::Dot => parse_member(kinds, node_words, next, count, list),
         _ => Stepped::Last {
             list,
             cursor,

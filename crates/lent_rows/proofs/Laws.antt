@@ -27,9 +27,9 @@ pub accepted :
 accepted q = rw q refl
 
 pub refused :
-    {r : Parsed} {x : ℕ} {a e p : TokenId} {n w : ℕ} → r ≡ Refused x a e p n → w ≡ x →
-    numbers w (a .0) (e .0) (p .0) n ≡ ofParsed r
-refused q e = rw (q, e) refl
+    {r : Parsed} {x : ℕ} {a e p : TokenId} {n : ℕ} → r ≡ Refused x p n a e →
+    numbers x (a .0) (e .0) (p .0) n ≡ ofParsed r
+refused q = rw q refl
 
 pub next : {r : Consumed} {p : TokenId} {n : ℕ} → r ≡ Next p n → numbers 0 0 0 (p .0) n ≡ ofConsumed r
 next q = rw q refl

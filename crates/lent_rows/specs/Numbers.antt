@@ -12,7 +12,7 @@ ofTaken t = record { number = 0; start = t .kind; end = t .kind; cursor = t .cur
 abbrev pub ofParsed : Parsed → Numbers
 ofParsed (Node root cursor count) =
     record { number = 0; start = root .0; end = root .0; cursor = cursor .0; count = count }
-ofParsed (Refused number start end cursor count) =
+ofParsed (Refused number cursor count start end) =
     record { number = number; start = start .0; end = end .0; cursor = cursor .0; count = count }
 
 abbrev pub ofConsumed : Consumed → Numbers

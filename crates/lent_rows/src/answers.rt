@@ -3,7 +3,7 @@ ghost use mathlib.Core.Bool.{true};
 ghost use mathlib.Core.Path.{_≡_};
 ghost use Prim.Native.Nat.{_≤_};
 ghost use Rattle.rules.specs.Codes.Limit as Most;
-ghost use Rattle.codes.specs.Answer.{Quiet};
+ghost use Rattle.codes.specs.Words.{Quiet};
 ghost use Rattle.tokens.specs.Answer.{consumed};
 ghost use Rattle.reader.specs.Answer.{ending};
 ghost use Rattle.lent_rows.specs.Numbers.{ofTaken, ofParsed, ofConsumed};
@@ -58,12 +58,12 @@ pub fn of_parsed(reply: Parsed) -> Numbers
         },
         Parsed::Refused {
             number,
-            start,
-            end,
             cursor,
             count,
+            start,
+            end,
         } => Numbers {
-            number: wide(number),
+            number,
             start: start.0,
             end: end.0,
             cursor: cursor.0,

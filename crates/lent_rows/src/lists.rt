@@ -1,7 +1,8 @@
 // A list of integers by the lent record, and by the core.
 ghost use mathlib.Core.Path.{_≡_};
-ghost use Prim.Native.Nat.{_+_, _^_, _<_};
-ghost use Rattle.codes.specs.Answer.{Gives, nodes};
+ghost use Prim.Native.Nat.{_+_, _≤_};
+ghost use Rattle.rules.specs.Codes.Limit as Most;
+ghost use Rattle.codes.specs.Words.{Gives, nodes};
 ghost use mathlib.Core.Option.{none};
 ghost use Rattle.nodes.specs.Answer.{Slots, ends};
 ghost use Rattle.lent_rows.specs.Lists.{items, Fits, Item, Records};
@@ -15,19 +16,18 @@ use nodes::Listed;
 
 // An item by the lent record: its content, an integer that is this token, and the item.
 fn item_by_record(
-    node_kinds: &mut [u8],
-    node_loads: &mut [u32],
+    node_words: &mut [u32],
     cursor: TokenId,
     buffer: ParseBuffer,
     token: u32,
 ) -> Patched
-    requires { ⌜ Fits (buffer .count) (buffer .list) (now «node_kinds») (now «node_loads») ⌝ }
-    ensures item { λ r. ⌜ Item token (cursor .0) (buffer .count) (buffer .list) (now («node_kinds» .entry))
-        (now («node_loads» .entry)) (r .reply) (now («node_kinds» .exit)) (now («node_loads» .exit)) ⌝ }
+    requires { ⌜ Fits (buffer .count) (buffer .list) (now «node_words») × (token ≤ Most.Load) ⌝ }
+    ensures item { λ r. ⌜ Item token (cursor .0) (buffer .count) (buffer .list) (now («node_words» .entry)) (r .reply)
+        (now («node_words» .exit)) ⌝ }
     ensures buffer { λ r. ⌜ Records (r .reply) (r .buffer) ⌝ }
 {
     let kind = ParseNode::UntypedIntegerLiteral;
-    let content = buffer::append_to(node_kinds, node_loads, cursor, buffer, kind, token);
+    let content = buffer::append_to(node_words, cursor, buffer, kind, token);
     let reply = content.reply;
     let after = content.buffer;
     let Parsed::Node {
@@ -41,24 +41,22 @@ fn item_by_record(
             buffer: after,
         };
     };
-    buffer::patch_in(node_kinds, node_loads, next, after)
+    buffer::patch_in(node_words, next, after)
 }
 
 // The same by the core.
 fn item_by_core(
-    node_kinds: &mut [u8],
-    node_loads: &mut [u32],
+    node_words: &mut [u32],
     cursor: TokenId,
     count: u32,
     list: ActiveList,
     token: u32,
 ) -> Listed
-    requires { ⌜ Fits count list (now «node_kinds») (now «node_loads») ⌝ }
-    ensures { λ r. ⌜ Item token (cursor .0) count list (now («node_kinds» .entry)) (now («node_loads» .entry)) r
-        (now («node_kinds» .exit)) (now («node_loads» .exit)) ⌝ }
+    requires { ⌜ Fits count list (now «node_words») × (token ≤ Most.Load) ⌝ }
+    ensures { λ r. ⌜ Item token (cursor .0) count list (now («node_words» .entry)) r (now («node_words» .exit)) ⌝ }
 {
     let kind = ParseNode::UntypedIntegerLiteral;
-    let content = nodes::push(node_kinds, node_loads, cursor, count, kind, token);
+    let content = nodes::push(node_words, cursor, count, kind, token);
     let Parsed::Node {
         root: _,
         cursor: next,
@@ -67,28 +65,26 @@ fn item_by_core(
     else {
         return Listed::Full { refusal: content };
     };
-    nodes::push_list_item(node_kinds, node_loads, next, used, list)
+    nodes::push_list_item(node_words, next, used, list)
 }
 
 // So many items from this token on and the list's end, by the lent record. The end is the core's, which takes the list.
 pub fn items_by_record(
-    node_kinds: &mut [u8],
-    node_loads: &mut [u32],
+    node_words: &mut [u32],
     cursor: TokenId,
     buffer: ParseBuffer,
     token: u32,
     left: u32,
 ) -> Parsed
-    requires { ⌜ Fits (buffer .count) (buffer .list) (now «node_kinds») (now «node_loads») × (token + left < 2 ^ 32) ⌝ }
+    requires { ⌜ Fits (buffer .count) (buffer .list) (now «node_words») × (token + left ≤ Most.Load + 1) ⌝ }
     ensures { λ r. ⌜ Gives (items left token (ends (buffer .list))) (cursor .0)
-        (nodes (now («node_kinds» .entry)) (now («node_loads» .entry)) (buffer .count)) r
-        (now («node_kinds» .exit)) (now («node_loads» .exit)) ⌝ }
+        (nodes (now («node_words» .entry)) (buffer .count)) r (now («node_words» .exit)) ⌝ }
 {
     let list = buffer.list;
     if left == 0 {
-        return nodes::push_end_of_list(node_kinds, node_loads, cursor, buffer.count, list);
+        return nodes::push_end_of_list(node_words, cursor, buffer.count, list);
     }
-    let item = item_by_record(node_kinds, node_loads, cursor, buffer, token);
+    let item = item_by_record(node_words, cursor, buffer, token);
     let reply = item.reply;
     let after = item.buffer;
     match reply {
@@ -96,77 +92,55 @@ pub fn items_by_record(
             list: _,
             cursor: next,
             count: _,
-        } => items_by_record(node_kinds, node_loads, next, after, token + 1, left - 1),
+        } => items_by_record(node_words, next, after, token + 1, left - 1),
         Listed::Full { refusal } => refusal,
     }
 }
 
 // The same by the core.
 pub fn items_by_core(
-    node_kinds: &mut [u8],
-    node_loads: &mut [u32],
+    node_words: &mut [u32],
     cursor: TokenId,
     count: u32,
     list: ActiveList,
     token: u32,
     left: u32,
 ) -> Parsed
-    requires { ⌜ Fits count list (now «node_kinds») (now «node_loads») × (token + left < 2 ^ 32) ⌝ }
-    ensures { λ r. ⌜ Gives (items left token (ends list)) (cursor .0)
-        (nodes (now («node_kinds» .entry)) (now («node_loads» .entry)) count) r
-        (now («node_kinds» .exit)) (now («node_loads» .exit)) ⌝ }
+    requires { ⌜ Fits count list (now «node_words») × (token + left ≤ Most.Load + 1) ⌝ }
+    ensures { λ r. ⌜ Gives (items left token (ends list)) (cursor .0) (nodes (now («node_words» .entry)) count) r
+        (now («node_words» .exit)) ⌝ }
 {
     if left == 0 {
-        return nodes::push_end_of_list(node_kinds, node_loads, cursor, count, list);
+        return nodes::push_end_of_list(node_words, cursor, count, list);
     }
-    let item = item_by_core(node_kinds, node_loads, cursor, count, list, token);
+    let item = item_by_core(node_words, cursor, count, list, token);
     match item {
         Listed::List {
             list: more,
             cursor: next,
             count: used,
-        } => items_by_core(
-            node_kinds,
-            node_loads,
-            next,
-            used,
-            more,
-            token + 1,
-            left - 1,
-        ),
+        } => items_by_core(node_words, next, used, more, token + 1, left - 1),
         Listed::Full { refusal } => refusal,
     }
 }
 
 // A list of so many items whose tokens are the first ones, by the lent record.
-pub fn list_by_record(
-    node_kinds: &mut [u8],
-    node_loads: &mut [u32],
-    cursor: TokenId,
-    length: u32,
-) -> Parsed
-    requires { ⌜ Slots (now «node_kinds») (now «node_loads») 0 ⌝ }
-    ensures { λ r. ⌜ Gives (items length 0 none) (cursor .0)
-        (nodes (now («node_kinds» .entry)) (now («node_loads» .entry)) 0) r
-        (now («node_kinds» .exit)) (now («node_loads» .exit)) ⌝ }
+pub fn list_by_record(node_words: &mut [u32], cursor: TokenId, length: u32) -> Parsed
+    requires { ⌜ Slots (now «node_words») 0 × (length ≤ Most.Load + 1) ⌝ }
+    ensures { λ r. ⌜ Gives (items length 0 none) (cursor .0) (nodes (now («node_words» .entry)) 0) r
+        (now («node_words» .exit)) ⌝ }
 {
     let list = nodes::start_list();
     let buffer = ParseBuffer { count: 0, list };
-    items_by_record(node_kinds, node_loads, cursor, buffer, 0, length)
+    items_by_record(node_words, cursor, buffer, 0, length)
 }
 
 // The same by the core.
-pub fn list_by_core(
-    node_kinds: &mut [u8],
-    node_loads: &mut [u32],
-    cursor: TokenId,
-    length: u32,
-) -> Parsed
-    requires { ⌜ Slots (now «node_kinds») (now «node_loads») 0 ⌝ }
-    ensures { λ r. ⌜ Gives (items length 0 none) (cursor .0)
-        (nodes (now («node_kinds» .entry)) (now («node_loads» .entry)) 0) r
-        (now («node_kinds» .exit)) (now («node_loads» .exit)) ⌝ }
+pub fn list_by_core(node_words: &mut [u32], cursor: TokenId, length: u32) -> Parsed
+    requires { ⌜ Slots (now «node_words») 0 × (length ≤ Most.Load + 1) ⌝ }
+    ensures { λ r. ⌜ Gives (items length 0 none) (cursor .0) (nodes (now («node_words» .entry)) 0) r
+        (now («node_words» .exit)) ⌝ }
 {
     let list = nodes::start_list();
-    items_by_core(node_kinds, node_loads, cursor, 0, list, 0, length)
+    items_by_core(node_words, cursor, 0, list, 0, length)
 }

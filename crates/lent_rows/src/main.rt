@@ -26,8 +26,8 @@ const ITEMS: u32 = 3;
 
 const SLOTS: usize = 7;
 
-// What a slot's kind is before a node is appended there; no node has it.
-const UNUSED: u8 = 255;
+// What a slot holds before a node is appended there: a kind that no node has, and load 0.
+const UNUSED: u32 = 255;
 
 // Says so where an answer is not the core's.
 fn compare(ours: Numbers, core: Numbers) {
@@ -147,28 +147,24 @@ fn show_lines(input: &[u8]) {
 }
 
 // A list's reply and its nodes.
-fn print_list(text: &[u8], reply: Parsed, node_kinds: &[u8], node_loads: &[u32]) {
+fn print_list(text: &[u8], reply: Parsed, node_words: &[u32]) {
     io::write_all(STDOUT_FILENO, text);
     let count = show::print_reply(reply);
-    show::print_nodes(node_kinds, node_loads, count as usize);
+    show::print_words(node_words, count as usize);
 }
 
 // The list with so many slots, by the lent record and by the core.
 fn show_list(slots: usize)
     requires { ⌜ slots ≤ 7 ⌝ }
 {
-    let mut all_kinds = [UNUSED; SLOTS];
-    let mut all_loads = [0u32; SLOTS];
-    let node_kinds = &mut all_kinds[..slots];
-    let node_loads = &mut all_loads[..slots];
-    let mut core_kinds = [UNUSED; SLOTS];
-    let mut core_loads = [0u32; SLOTS];
-    let node_kinds_2 = &mut core_kinds[..slots];
-    let node_loads_2 = &mut core_loads[..slots];
-    let reply = lists::list_by_record(node_kinds, node_loads, TokenId(ITEMS), ITEMS);
-    let core = lists::list_by_core(node_kinds_2, node_loads_2, TokenId(ITEMS), ITEMS);
-    print_list(b"record: ", reply, node_kinds, node_loads);
-    print_list(b"core: ", core, node_kinds_2, node_loads_2);
+    let mut all_words = [UNUSED; SLOTS];
+    let node_words = &mut all_words[..slots];
+    let mut core_words = [UNUSED; SLOTS];
+    let node_words_2 = &mut core_words[..slots];
+    let reply = lists::list_by_record(node_words, TokenId(ITEMS), ITEMS);
+    let core = lists::list_by_core(node_words_2, TokenId(ITEMS), ITEMS);
+    print_list(b"record: ", reply, node_words);
+    print_list(b"core: ", core, node_words_2);
     compare(answers::of_parsed(reply), answers::of_parsed(core));
 }
 

@@ -9,7 +9,8 @@ use Rattle.codes.specs.declared.Parsed.{Parsed}
 use Rattle.codes.specs.declared.Parsed.the-variants.{Node, Refused}
 use Rattle.codes.specs.declared.NodeId.{NodeId}
 use Rattle.codes.specs.declared.TokenId.{TokenId}
-use Rattle.codes.specs.Answer.{As, Gives, Untyped, Quiet, nodes, token, row}
+use Rattle.codes.specs.Answer.{token, row}
+use Rattle.codes.specs.Words.{As, Gives, Untyped, Quiet, nodes}
 use Rattle.codes.proofs.Onto.{Onto, _then_, stays, reads, regroup, answers, shows, picked}
 use Rattle.codes.proofs.Onto.{told, held, hands-on, came-read, plain-parsed, Holding}
 use Rattle.tokens.specs.declared.Consumed.{Consumed}
@@ -31,7 +32,8 @@ use Rattle.lists.specs.Answer.{shorthandEnd, linking}
 use Rattle.rules.specs.Codes.BaseToken as BaseToken
 use Rattle.rules.specs.Codes.ParseNode as ParseNode
 use Rattle.rules.specs.Reading.{Step, again, done, _>>=_}
-use Rattle.rules.specs.Columns.{Nodes, Ends, columns, append, pushListItem, pushEndOfList}
+use Rattle.rules.specs.Lists.{Ends}
+use Rattle.rules.specs.Words.{Words, words, append, pushListItem, pushEndOfList}
 use Rattle.rules.specs.Expressions.{Owner, structural, separator, itemEnd, nameAlone, owned, listEnd}
 
 -- what was read, by the turn
@@ -73,16 +75,16 @@ module _ (closing : ℕ) (l : ActiveList) (i : ℕ) {tk : List ℕ} {c k : ℕ} 
       {p : TokenId} {j : ℕ} → q ≡ Next p j → Quiet turned (closingWith closing (ends l, i)) tk c k (Last l i p j)
   unfolding closingWith consuming
   list-closed {p} {j} w = record {
-    run = λ tv ns ls.
-        let z : As turned (closingWith closing (ends l, i) (row tk tv)) c (nodes ns ls k)
-        (Last (active (ends l)) i p j) ns ls =
-        answers (reads _ (came-read (holding-consumed .plain) (d .run tv ns ls) w)) in
+    run = λ tv ns.
+        let z : As turned (closingWith closing (ends l, i) (row tk tv)) c (nodes ns k)
+        (Last (active (ends l)) i p j) ns =
+        answers (reads _ (came-read (holding-consumed .plain) (d .run tv ns) w)) in
         rw (active-ends l) at z;
   }
 
   pub list-open : {r : Parsed} → q ≡ Wrong r → Quiet turned (closingWith closing (ends l, i)) tk c k (NoTurn r)
   unfolding closingWith consuming
-  list-open w = record { run = λ tv ns ls. hands-on _ stays (held holding-consumed (d .run tv ns ls) w) }
+  list-open w = record { run = λ tv ns. hands-on _ stays (held holding-consumed (d .run tv ns) w) }
 
 -- after an item: a comma, or the closing token
 module _ (closing : ℕ) (l : ActiveList) (i : ℕ) {tk : List ℕ} {c k : ℕ} {o : Optional}
@@ -91,9 +93,9 @@ module _ (closing : ℕ) (l : ActiveList) (i : ℕ) {tk : List ℕ} {c k : ℕ} 
       o .found ≡ true → Quiet turned (separating closing (ends l, i)) tk c k (More l i (o .cursor) k)
   unfolding separating separator
   comma-read e = record {
-    run = λ tv ns ls.
-        let z : As turned (separating closing (ends l, i) (row tk tv)) c (nodes ns ls k)
-        (More (active (ends l)) i (o .cursor) k) ns ls =
+    run = λ tv ns.
+        let z : As turned (separating closing (ends l, i) (row tk tv)) c (nodes ns k)
+        (More (active (ends l)) i (o .cursor) k) ns =
         answers (reads _ (optioned g tv) then picked _ _ true e) in
         rw (active-ends l) at z;
   }
@@ -102,7 +104,7 @@ module _ (closing : ℕ) (l : ActiveList) (i : ℕ) {tk : List ℕ} {c k : ℕ} 
       o .found ≡ false → {r : Turn} → Quiet turned (closingWith closing (ends l, i)) tk c k r →
       Quiet turned (separating closing (ends l, i)) tk c k r
   unfolding separating separator closingWith
-  no-comma e d = record { run = λ tv ns ls. shows (reads _ (skipped g e tv)) (d .run tv ns ls) }
+  no-comma e d = record { run = λ tv ns. shows (reads _ (skipped g e tv)) (d .run tv ns) }
 
   -- by a kind of the closing token
   pub no-comma-by :
@@ -111,103 +113,103 @@ module _ (closing : ℕ) (l : ActiveList) (i : ℕ) {tk : List ℕ} {c k : ℕ} 
   no-comma-by e q d = no-comma e (rw q d)
 
 -- an item
-module _ (closing : ℕ) (l : ActiveList) (i content : ℕ) (tk : List ℕ) {c : ℕ} {s : Nodes} {o : Listed} {ks ls : List ℕ}
-    (g : As listed (pushListItem (ends l)) c s o ks ls) where
+module _ (closing : ℕ) (l : ActiveList) (i content : ℕ) (tk : List ℕ) {c : ℕ} {s : Words} {o : Listed} {ks : List ℕ}
+    (g : As listed (pushListItem (ends l)) c s o ks) where
   pub item-full :
-      {r : Parsed} → o ≡ Full r → Untyped turned (ending closing (ends l, i) content) tk c s (NoTurn r) ks ls
+      {r : Parsed} → o ≡ Full r → Untyped turned (ending closing (ends l, i) content) tk c s (NoTurn r) ks
   unfolding ending itemEnd
   item-full q = record { run = λ tv. hands-on _ stays (held holding-listed g q) }
 
   pub item-read :
       {m : ActiveList} {p : TokenId} {j : ℕ} → o ≡ Items m p j → {r : Turn} →
       Quiet turned (separating closing (ends m, i + 1)) tk (p .0) j r →
-      Untyped turned (ending closing (ends l, i) content) tk c s r ks ls
+      Untyped turned (ending closing (ends l, i) content) tk c s r ks
   unfolding ending itemEnd separating
-  item-read q d = record { run = λ tv. shows (reads _ (came-listed g q)) (d .run tv ks ls) }
+  item-read q d = record { run = λ tv. shows (reads _ (came-listed g q)) (d .run tv ks) }
 
 -- a field
-module _ (l : Counted) (name e : ℕ) (tk : List ℕ) {c : ℕ} {s : Nodes} {r₁ : Parsed} {ks₁ ls₁ : List ℕ}
-    (g : Gives (append ParseNode.IdentifierAndExpression name) c s r₁ ks₁ ls₁) where
+module _ (l : Counted) (name e : ℕ) (tk : List ℕ) {c : ℕ} {s : Words} {r₁ : Parsed} {ks₁ : List ℕ}
+    (g : Gives (append ParseNode.IdentifierAndExpression name) c s r₁ ks₁) where
   pub field-refused :
-      {x : ℕ} {a b p : TokenId} {j : ℕ} → r₁ ≡ Refused x a b p j →
-      Untyped turned (fieldEnd l name e) tk c s (NoTurn r₁) ks₁ ls₁
+      {x : ℕ} {a b p : TokenId} {j : ℕ} → r₁ ≡ Refused x p j a b →
+      Untyped turned (fieldEnd l name e) tk c s (NoTurn r₁) ks₁
   unfolding fieldEnd
   field-refused q = record { run = λ tv. hands-on _ stays (told g q) }
 
   pub field-read :
-      {n : NodeId} {p : TokenId} {j : ℕ} → r₁ ≡ Node n p j → {r : Turn} {ks ls : List ℕ} →
-      Untyped turned (ending BaseToken.BraceRight l (n .0)) tk (p .0) (nodes ks₁ ls₁ j) r ks ls →
-      Untyped turned (fieldEnd l name e) tk c s r ks ls
+      {n : NodeId} {p : TokenId} {j : ℕ} → r₁ ≡ Node n p j → {r : Turn} {ks : List ℕ} →
+      Untyped turned (ending BaseToken.BraceRight l (n .0)) tk (p .0) (nodes ks₁ j) r ks →
+      Untyped turned (fieldEnd l name e) tk c s r ks
   unfolding fieldEnd ending
   field-read q d = record { run = λ tv. shows (reads _ (came-read plain-parsed g q)) (d .run tv) }
 
 -- a field without colon
-module _ (l : Counted) (name : ℕ) (tk : List ℕ) {c : ℕ} {s : Nodes} {r₁ : Parsed} {ks₁ ls₁ : List ℕ}
-    (g : Gives (nameAlone columns name) c s r₁ ks₁ ls₁) where
+module _ (l : Counted) (name : ℕ) (tk : List ℕ) {c : ℕ} {s : Words} {r₁ : Parsed} {ks₁ : List ℕ}
+    (g : Gives (nameAlone words name) c s r₁ ks₁) where
   pub shorthand-refused :
-      {x : ℕ} {a b p : TokenId} {j : ℕ} → r₁ ≡ Refused x a b p j →
-      Untyped turned (shorthandEnd l name) tk c s (NoTurn r₁) ks₁ ls₁
+      {x : ℕ} {a b p : TokenId} {j : ℕ} → r₁ ≡ Refused x p j a b →
+      Untyped turned (shorthandEnd l name) tk c s (NoTurn r₁) ks₁
   unfolding shorthandEnd
   shorthand-refused q = record { run = λ tv. hands-on _ stays (told g q) }
 
   pub shorthand-read :
-      {n : NodeId} {p : TokenId} {j : ℕ} → r₁ ≡ Node n p j → {r : Turn} {ks ls : List ℕ} →
-      Untyped turned (fieldEnd l name (n .0)) tk (p .0) (nodes ks₁ ls₁ j) r ks ls →
-      Untyped turned (shorthandEnd l name) tk c s r ks ls
+      {n : NodeId} {p : TokenId} {j : ℕ} → r₁ ≡ Node n p j → {r : Turn} {ks : List ℕ} →
+      Untyped turned (fieldEnd l name (n .0)) tk (p .0) (nodes ks₁ j) r ks →
+      Untyped turned (shorthandEnd l name) tk c s r ks
   unfolding shorthandEnd
   shorthand-read q d = record { run = λ tv. shows (reads _ (came-read plain-parsed g q)) (d .run tv) }
 
 -- the nodes of what a list belongs to
-module _ {o : Code} (items list : ℕ) {c : ℕ} {s : Nodes} {r : Parsed} {ks ls : List ℕ} where
+module _ {o : Code} (items list : ℕ) {c : ℕ} {s : Words} {r : Parsed} {ks : List ℕ} where
   pub call-read :
       {name : TokenId} {builtin : ℕ} → o ≡ Call name builtin →
-      Gives (appendTwo ParseNode.Identifier (name .0) ParseNode.FunctionCall builtin) c s r ks ls →
-      Gives (owned columns (ownerOf o) items list) c s r ks ls
+      Gives (appendTwo ParseNode.Identifier (name .0) ParseNode.FunctionCall builtin) c s r ks →
+      Gives (owned words (ownerOf o) items list) c s r ks
   unfolding owned appendTwo
   call-read e g = rw e g
 
   pub elements-read :
-      o ≡ Elements → Gives (append ParseNode.ArrayLiteral items) c s r ks ls →
-      Gives (owned columns (ownerOf o) items list) c s r ks ls
+      o ≡ Elements → Gives (append ParseNode.ArrayLiteral items) c s r ks →
+      Gives (owned words (ownerOf o) items list) c s r ks
   unfolding owned
   elements-read e g = rw e g
 
 -- the end of a list, and the link to it
-module _ (l : Option Ends) {c : ℕ} {s : Nodes} {r₁ : Parsed} {ks₁ ls₁ : List ℕ}
-    (g : Gives (pushEndOfList l) c s r₁ ks₁ ls₁) where
+module _ (l : Option Ends) {c : ℕ} {s : Words} {r₁ : Parsed} {ks₁ : List ℕ}
+    (g : Gives (pushEndOfList l) c s r₁ ks₁) where
   pub end-refused :
-      {x : ℕ} {a b p : TokenId} {j : ℕ} → r₁ ≡ Refused x a b p j → Gives (linking l) c s r₁ ks₁ ls₁
+      {x : ℕ} {a b p : TokenId} {j : ℕ} → r₁ ≡ Refused x p j a b → Gives (linking l) c s r₁ ks₁
   unfolding linking
   end-refused q = hands-on _ stays (told g q)
 
   pub link-read :
-      {n : NodeId} {p : TokenId} {j : ℕ} → r₁ ≡ Node n p j → {r : Parsed} {ks ls : List ℕ} →
-      Gives (append ParseNode.List (n .0)) (p .0) (nodes ks₁ ls₁ j) r ks ls → Gives (linking l) c s r ks ls
+      {n : NodeId} {p : TokenId} {j : ℕ} → r₁ ≡ Node n p j → {r : Parsed} {ks : List ℕ} →
+      Gives (append ParseNode.List (n .0)) (p .0) (nodes ks₁ j) r ks → Gives (linking l) c s r ks
   unfolding linking
   link-read q d = shows (reads _ (came-read plain-parsed g q)) d
 
 -- the end of a list, with what it belongs to
-module _ (o : Owner) (l : Option Ends) (i : ℕ) {c : ℕ} {s : Nodes} {r₁ : Parsed} {ks₁ ls₁ : List ℕ}
-    (g : Gives (linking l) c s r₁ ks₁ ls₁) where
-  linked : Onto (listEnd columns o (l, i)) c s (linking l >>= λ n. owned columns o i n) c s
+module _ (o : Owner) (l : Option Ends) (i : ℕ) {c : ℕ} {s : Words} {r₁ : Parsed} {ks₁ : List ℕ}
+    (g : Gives (linking l) c s r₁ ks₁) where
+  linked : Onto (listEnd words o (l, i)) c s (linking l >>= λ n. owned words o i n) c s
   unfolding listEnd linking
   linked = record {
-    same = sym (regroup (pushEndOfList l) (λ t. append ParseNode.List t) (λ n. owned columns o i n) c s .same);
+    same = sym (regroup (pushEndOfList l) (λ t. append ParseNode.List t) (λ n. owned words o i n) c s .same);
   }
 
   pub list-refused :
-      {x : ℕ} {a b p : TokenId} {j : ℕ} → r₁ ≡ Refused x a b p j → Gives (listEnd columns o (l, i)) c s r₁ ks₁ ls₁
+      {x : ℕ} {a b p : TokenId} {j : ℕ} → r₁ ≡ Refused x p j a b → Gives (listEnd words o (l, i)) c s r₁ ks₁
   list-refused q = hands-on _ linked (told g q)
 
   pub list-read :
-      {n : NodeId} {p : TokenId} {j : ℕ} → r₁ ≡ Node n p j → {r : Parsed} {ks ls : List ℕ} →
-      Gives (owned columns o i (n .0)) (p .0) (nodes ks₁ ls₁ j) r ks ls → Gives (listEnd columns o (l, i)) c s r ks ls
+      {n : NodeId} {p : TokenId} {j : ℕ} → r₁ ≡ Node n p j → {r : Parsed} {ks : List ℕ} →
+      Gives (owned words o i (n .0)) (p .0) (nodes ks₁ j) r ks → Gives (listEnd words o (l, i)) c s r ks
   list-read q d = shows (linked then reads _ (came-read plain-parsed g q)) d
 
 pub fields-read :
-    (name : ℕ) (l : Option Ends) (i : ℕ) {c : ℕ} {s : Nodes} {r₁ : Parsed} {ks₁ ls₁ : List ℕ} →
-    Gives (linking l) c s r₁ ks₁ ls₁ → {n : NodeId} {p : TokenId} {j : ℕ} → r₁ ≡ Node n p j →
-    {r : Parsed} {ks ls : List ℕ} → Gives (append ParseNode.Structural name) (p .0) (nodes ks₁ ls₁ j) r ks ls →
-    Gives (listEnd columns (structural name) (l, i)) c s r ks ls
+    (name : ℕ) (l : Option Ends) (i : ℕ) {c : ℕ} {s : Words} {r₁ : Parsed} {ks₁ : List ℕ} →
+    Gives (linking l) c s r₁ ks₁ → {n : NodeId} {p : TokenId} {j : ℕ} → r₁ ≡ Node n p j →
+    {r : Parsed} {ks : List ℕ} → Gives (append ParseNode.Structural name) (p .0) (nodes ks₁ j) r ks →
+    Gives (listEnd words (structural name) (l, i)) c s r ks
 unfolding owned
 fields-read name l i g q d = list-read (structural name) l i g q d

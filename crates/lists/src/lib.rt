@@ -2,11 +2,11 @@
 ghost use mathlib.Core.Path.{_≡_};
 ghost use Prim.Native.Nat.{_+_, _≤_};
 ghost use Rattle.rules.specs.Codes.Limit as Most;
-ghost use Rattle.rules.specs.Columns.{columns};
+ghost use Rattle.rules.specs.Words.{words};
 ghost use Rattle.rules.specs.Expressions.{structural, closingOf, owned, listEnd};
-ghost use Rattle.codes.specs.Answer.{Gives, Untyped, Quiet, nodes};
+ghost use Rattle.codes.specs.Words.{Gives, Untyped, Quiet, nodes};
 ghost use Rattle.nodes.specs.Answer.{Slots, ends, past};
-ghost use Rattle.lists.specs.Answer.{ownerOf, turned, closingWith, separating, ending, fieldEnd, shorthandEnd, linking};
+ghost use Rattle.lists.specs.Answer.{Small, ownerOf, turned, closingWith, separating, ending, fieldEnd, shorthandEnd, linking};
 use codes::BaseToken;
 use codes::NodeId;
 use codes::ParseNode;
@@ -125,8 +125,7 @@ fn parse_separator(
 // What was appended last becomes the list's item; a comma or the closing token follows.
 pub fn finish_item(
     kinds: &[u8],
-    node_kinds: &mut [u8],
-    node_loads: &mut [u32],
+    node_words: &mut [u32],
     cursor: TokenId,
     count: u32,
     list: ActiveList,
@@ -134,10 +133,10 @@ pub fn finish_item(
     closing: u8,
     content: NodeId,
 ) -> Turn
-    requires { ⌜ (cursor .0 ≤ Most.Tokens + 1) × Slots (now «node_kinds») (now «node_loads») count × (past list ≤ count) × (items ≤ count) ⌝ }
-    ensures { λ r. ⌜ Untyped turned (ending closing (ends list, items) (content .0)) (now (kinds .entry)) (cursor .0) (nodes (now («node_kinds» .entry)) (now («node_loads» .entry)) count) r (now («node_kinds» .exit)) (now («node_loads» .exit)) ⌝ }
+    requires { ⌜ (cursor .0 ≤ Most.Tokens + 1) × Slots (now «node_words») count × (past list ≤ count) × (items ≤ count) ⌝ }
+    ensures { λ r. ⌜ Untyped turned (ending closing (ends list, items) (content .0)) (now (kinds .entry)) (cursor .0) (nodes (now («node_words» .entry)) count) r (now («node_words» .exit)) ⌝ }
 {
-    match push_list_item(node_kinds, node_loads, cursor, count, list) {
+    match push_list_item(node_words, cursor, count, list) {
         Listed::List {
             list: grown,
             cursor: after,
@@ -150,8 +149,7 @@ pub fn finish_item(
 // After the expression of the field at `name`.
 pub fn finish_field(
     kinds: &[u8],
-    node_kinds: &mut [u8],
-    node_loads: &mut [u32],
+    node_words: &mut [u32],
     cursor: TokenId,
     count: u32,
     list: ActiveList,
@@ -159,11 +157,11 @@ pub fn finish_field(
     name: TokenId,
     expression: NodeId,
 ) -> Turn
-    requires { ⌜ (cursor .0 ≤ Most.Tokens + 1) × Slots (now «node_kinds») (now «node_loads») count × (past list ≤ count) × (items ≤ count) ⌝ }
-    ensures { λ r. ⌜ Untyped turned (fieldEnd (ends list, items) (name .0) (expression .0)) (now (kinds .entry)) (cursor .0) (nodes (now («node_kinds» .entry)) (now («node_loads» .entry)) count) r (now («node_kinds» .exit)) (now («node_loads» .exit)) ⌝ }
+    requires { ⌜ (cursor .0 ≤ Most.Tokens + 1) × Slots (now «node_words») count × (past list ≤ count) × (items ≤ count) × (name .0 ≤ Most.Load) ⌝ }
+    ensures { λ r. ⌜ Untyped turned (fieldEnd (ends list, items) (name .0) (expression .0)) (now (kinds .entry)) (cursor .0) (nodes (now («node_words» .entry)) count) r (now («node_words» .exit)) ⌝ }
 {
     let kind = ParseNode::IdentifierAndExpression;
-    let field = push(node_kinds, node_loads, cursor, count, kind, name.0);
+    let field = push(node_words, cursor, count, kind, name.0);
     let Parsed::Node {
         root: content,
         cursor: after,
@@ -175,8 +173,7 @@ pub fn finish_field(
     let closing = BaseToken::BraceRight;
     finish_item(
         kinds,
-        node_kinds,
-        node_loads,
+        node_words,
         after,
         used,
         list,
@@ -189,18 +186,17 @@ pub fn finish_field(
 // The field at `name` without a colon, which stands for `name: name`.
 pub fn finish_shorthand(
     kinds: &[u8],
-    node_kinds: &mut [u8],
-    node_loads: &mut [u32],
+    node_words: &mut [u32],
     cursor: TokenId,
     count: u32,
     list: ActiveList,
     items: u32,
     name: TokenId,
 ) -> Turn
-    requires { ⌜ (cursor .0 ≤ Most.Tokens + 1) × Slots (now «node_kinds») (now «node_loads») count × (past list ≤ count) × (items ≤ count) ⌝ }
-    ensures { λ r. ⌜ Untyped turned (shorthandEnd (ends list, items) (name .0)) (now (kinds .entry)) (cursor .0) (nodes (now («node_kinds» .entry)) (now («node_loads» .entry)) count) r (now («node_kinds» .exit)) (now («node_loads» .exit)) ⌝ }
+    requires { ⌜ (cursor .0 ≤ Most.Tokens + 1) × Slots (now «node_words») count × (past list ≤ count) × (items ≤ count) × (name .0 ≤ Most.Load) ⌝ }
+    ensures { λ r. ⌜ Untyped turned (shorthandEnd (ends list, items) (name .0)) (now (kinds .entry)) (cursor .0) (nodes (now («node_words» .entry)) count) r (now («node_words» .exit)) ⌝ }
 {
-    let reference = push_name(node_kinds, node_loads, cursor, count, name);
+    let reference = push_name(node_words, cursor, count, name);
     let Parsed::Node {
         root: expression,
         cursor: after,
@@ -211,8 +207,7 @@ pub fn finish_shorthand(
     };
     finish_field(
         kinds,
-        node_kinds,
-        node_loads,
+        node_words,
         after,
         used,
         list,
@@ -224,22 +219,20 @@ pub fn finish_shorthand(
 
 // The nodes of what a list of expressions belongs to, after the link to it.
 fn push_owner(
-    node_kinds: &mut [u8],
-    node_loads: &mut [u32],
+    node_words: &mut [u32],
     cursor: TokenId,
     count: u32,
     owner: Owner,
     items: u32,
     list: NodeId,
 ) -> Parsed
-    requires { ⌜ Slots (now «node_kinds») (now «node_loads») count ⌝ }
-    ensures { λ r. ⌜ Gives (owned columns (ownerOf owner) items (list .0)) (cursor .0) (nodes (now («node_kinds» .entry)) (now («node_loads» .entry)) count) r (now («node_kinds» .exit)) (now («node_loads» .exit)) ⌝ }
+    requires { ⌜ Slots (now «node_words») count × Small owner × (items ≤ Most.Load) ⌝ }
+    ensures { λ r. ⌜ Gives (owned words (ownerOf owner) items (list .0)) (cursor .0) (nodes (now («node_words» .entry)) count) r (now («node_words» .exit)) ⌝ }
 {
     match owner {
         Owner::Call { name, builtin } => {
             push_two(
-                node_kinds,
-                node_loads,
+                node_words,
                 cursor,
                 count,
                 ParseNode::Identifier,
@@ -248,31 +241,16 @@ fn push_owner(
                 builtin,
             )
         }
-        Owner::Elements => {
-            push(
-                node_kinds,
-                node_loads,
-                cursor,
-                count,
-                ParseNode::ArrayLiteral,
-                items,
-            )
-        }
+        Owner::Elements => { push(node_words, cursor, count, ParseNode::ArrayLiteral, items) }
     }
 }
 
 // The end of a list, and the link to it.
-fn link_list(
-    node_kinds: &mut [u8],
-    node_loads: &mut [u32],
-    cursor: TokenId,
-    count: u32,
-    list: ActiveList,
-) -> Parsed
-    requires { ⌜ Slots (now «node_kinds») (now «node_loads») count × (past list ≤ count) ⌝ }
-    ensures { λ r. ⌜ Gives (linking (ends list)) (cursor .0) (nodes (now («node_kinds» .entry)) (now («node_loads» .entry)) count) r (now («node_kinds» .exit)) (now («node_loads» .exit)) ⌝ }
+fn link_list(node_words: &mut [u32], cursor: TokenId, count: u32, list: ActiveList) -> Parsed
+    requires { ⌜ Slots (now «node_words») count × (past list ≤ count) ⌝ }
+    ensures { λ r. ⌜ Gives (linking (ends list)) (cursor .0) (nodes (now («node_words» .entry)) count) r (now («node_words» .exit)) ⌝ }
 {
-    let ended = push_end_of_list(node_kinds, node_loads, cursor, count, list);
+    let ended = push_end_of_list(node_words, cursor, count, list);
     let Parsed::Node {
         root: first,
         cursor: end,
@@ -281,23 +259,22 @@ fn link_list(
     else {
         return ended;
     };
-    push_list(node_kinds, node_loads, end, used, first)
+    push_list(node_words, end, used, first)
 }
 
 // The end of a list of expressions, and the nodes of what it belongs to.
 pub fn finish_list(
-    node_kinds: &mut [u8],
-    node_loads: &mut [u32],
+    node_words: &mut [u32],
     cursor: TokenId,
     count: u32,
     list: ActiveList,
     items: u32,
     owner: Owner,
 ) -> Parsed
-    requires { ⌜ Slots (now «node_kinds») (now «node_loads») count × (past list ≤ count) ⌝ }
-    ensures { λ r. ⌜ Gives (listEnd columns (ownerOf owner) (ends list, items)) (cursor .0) (nodes (now («node_kinds» .entry)) (now («node_loads» .entry)) count) r (now («node_kinds» .exit)) (now («node_loads» .exit)) ⌝ }
+    requires { ⌜ Slots (now «node_words») count × (past list ≤ count) × Small owner × (items ≤ Most.Load) ⌝ }
+    ensures { λ r. ⌜ Gives (listEnd words (ownerOf owner) (ends list, items)) (cursor .0) (nodes (now («node_words» .entry)) count) r (now («node_words» .exit)) ⌝ }
 {
-    let linked = link_list(node_kinds, node_loads, cursor, count, list);
+    let linked = link_list(node_words, cursor, count, list);
     let Parsed::Node {
         root: link,
         cursor: after,
@@ -306,23 +283,22 @@ pub fn finish_list(
     else {
         return linked;
     };
-    push_owner(node_kinds, node_loads, after, used, owner, items, link)
+    push_owner(node_words, after, used, owner, items, link)
 }
 
 // The end of the fields of the struct or word at `name`, and its node, which does not hold their number.
 pub fn finish_fields(
-    node_kinds: &mut [u8],
-    node_loads: &mut [u32],
+    node_words: &mut [u32],
     cursor: TokenId,
     count: u32,
     list: ActiveList,
     items: u32,
     name: TokenId,
 ) -> Parsed
-    requires { ⌜ Slots (now «node_kinds») (now «node_loads») count × (past list ≤ count) ⌝ }
-    ensures { λ r. ⌜ Gives (listEnd columns (structural (name .0)) (ends list, items)) (cursor .0) (nodes (now («node_kinds» .entry)) (now («node_loads» .entry)) count) r (now («node_kinds» .exit)) (now («node_loads» .exit)) ⌝ }
+    requires { ⌜ Slots (now «node_words») count × (past list ≤ count) × (name .0 ≤ Most.Load) ⌝ }
+    ensures { λ r. ⌜ Gives (listEnd words (structural (name .0)) (ends list, items)) (cursor .0) (nodes (now («node_words» .entry)) count) r (now («node_words» .exit)) ⌝ }
 {
-    let linked = link_list(node_kinds, node_loads, cursor, count, list);
+    let linked = link_list(node_words, cursor, count, list);
     let Parsed::Node {
         root: _,
         cursor: after,
@@ -332,5 +308,5 @@ pub fn finish_fields(
         return linked;
     };
     let kind = ParseNode::Structural;
-    push(node_kinds, node_loads, after, used, kind, name.0)
+    push(node_words, after, used, kind, name.0)
 }

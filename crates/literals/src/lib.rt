@@ -3,7 +3,8 @@ ghost use mathlib.Core.Path.{_≡_};
 ghost use Prim.Native.Nat.{_+_, _≤_};
 ghost use lib.ListN.{length};
 ghost use Rattle.rules.specs.Codes.Limit as Most;
-ghost use Rattle.codes.specs.Answer.{Untyped, Sized, parsed, nodes};
+ghost use Rattle.codes.specs.Answer.{parsed};
+ghost use Rattle.codes.specs.Words.{Untyped, Sized, nodes};
 ghost use Rattle.nodes.specs.Answer.{Slots};
 ghost use Rattle.literals.specs.Answer.{Ending, Unkinded, Literal, Lone, ends, joining, suffixed};
 use codes::BaseToken;
@@ -19,7 +20,7 @@ use tokens::peek;
 // The place after further strings.
 fn end_of_strings(kinds: &[u8], cursor: TokenId) -> TokenId
     requires { ⌜ (cursor .0 ≤ Most.Tokens + 1) × (length (now kinds) ≤ Most.Tokens) ⌝ }
-    ensures { λ r. ⌜ Ending (now (kinds .entry)) (cursor .0) r ⌝ }
+    ensures { λ r. ⌜ Ending (now (kinds .entry)) (cursor .0) r × (r .0 ≤ Most.Load) ⌝ }
 {
     let mut at = cursor.0;
     loop {
@@ -35,21 +36,19 @@ fn end_of_strings(kinds: &[u8], cursor: TokenId) -> TokenId
 // A string, which is taken and starts at `start`, and those next to it.
 fn parse_strings(
     kinds: &[u8],
-    node_kinds: &mut [u8],
-    node_loads: &mut [u32],
+    node_words: &mut [u32],
     cursor: TokenId,
     count: u32,
     start: TokenId,
 ) -> Parsed
-    requires { ⌜ (cursor .0 ≤ Most.Tokens + 1) × (length (now kinds) ≤ Most.Tokens) × Slots (now «node_kinds») (now «node_loads») count ⌝ }
-    ensures { λ r. ⌜ Untyped parsed (joining (start .0)) (now (kinds .entry)) (cursor .0) (nodes (now («node_kinds» .entry)) (now («node_loads» .entry)) count) r (now («node_kinds» .exit)) (now («node_loads» .exit)) ⌝ }
+    requires { ⌜ (cursor .0 ≤ Most.Tokens + 1) × (length (now kinds) ≤ Most.Tokens) × Slots (now «node_words») count × (start .0 ≤ Most.Load) ⌝ }
+    ensures { λ r. ⌜ Untyped parsed (joining (start .0)) (now (kinds .entry)) (cursor .0) (nodes (now («node_words» .entry)) count) r (now («node_words» .exit)) ⌝ }
 {
     let second = consume_optional(kinds, cursor, BaseToken::StringLiteral);
     let after = second.cursor;
     if !second.found {
         return push(
-            node_kinds,
-            node_loads,
+            node_words,
             after,
             count,
             ParseNode::SimpleStringLiteral,
@@ -58,8 +57,7 @@ fn parse_strings(
     }
     let end = end_of_strings(kinds, after);
     push_two(
-        node_kinds,
-        node_loads,
+        node_words,
         end,
         count,
         ParseNode::EndOfSpan,
@@ -72,19 +70,17 @@ fn parse_strings(
 // An integer with its type, at `at`.
 fn push_typed_integer(
     types: &[u8],
-    node_kinds: &mut [u8],
-    node_loads: &mut [u32],
+    node_words: &mut [u32],
     cursor: TokenId,
     count: u32,
     at: TokenId,
 ) -> Parsed
-    requires { ⌜ Slots (now «node_kinds») (now «node_loads») count ⌝ }
-    ensures { λ r. ⌜ Unkinded (suffixed (at .0)) (now (types .entry)) (cursor .0) (nodes (now («node_kinds» .entry)) (now («node_loads» .entry)) count) r (now («node_kinds» .exit)) (now («node_loads» .exit)) ⌝ }
+    requires { ⌜ Slots (now «node_words») count × (at .0 ≤ Most.Load) ⌝ }
+    ensures { λ r. ⌜ Unkinded (suffixed (at .0)) (now (types .entry)) (cursor .0) (nodes (now («node_words» .entry)) count) r (now («node_words» .exit)) ⌝ }
 {
     let value_type = peek(types, at);
     push_two(
-        node_kinds,
-        node_loads,
+        node_words,
         cursor,
         count,
         ParseNode::SimpleValueType,
@@ -98,40 +94,35 @@ fn push_typed_integer(
 pub fn parse_literal(
     kinds: &[u8],
     types: &[u8],
-    node_kinds: &mut [u8],
-    node_loads: &mut [u32],
+    node_words: &mut [u32],
     cursor: TokenId,
     count: u32,
     token: u8,
 ) -> Parsed
-    requires { ⌜ Sized (now kinds) (now types) (now «node_kinds») (now «node_loads») (cursor .0) count ⌝ }
-    ensures { λ r. ⌜ Literal (now (kinds .entry)) (now (types .entry)) token (cursor .0) (nodes (now («node_kinds» .entry)) (now («node_loads» .entry)) count) r (now («node_kinds» .exit)) (now («node_loads» .exit)) ⌝ }
+    requires { ⌜ Sized (now kinds) (now types) (now «node_words») (cursor .0) count ⌝ }
+    ensures { λ r. ⌜ Literal (now (kinds .entry)) (now (types .entry)) token (cursor .0) (nodes (now («node_words» .entry)) count) r (now («node_words» .exit)) ⌝ }
 {
     let at = cursor.0;
     let next = TokenId(at + 1);
     match token {
         BaseToken::NakedDecimal => {
             let kind = ParseNode::UntypedIntegerLiteral;
-            push(node_kinds, node_loads, next, count, kind, at)
+            push(node_words, next, count, kind, at)
         }
         BaseToken::BitInteger => {
             let kind = ParseNode::UntypedIntegerLiteral;
-            push(node_kinds, node_loads, next, count, kind, at)
+            push(node_words, next, count, kind, at)
         }
-        BaseToken::SuffixedInteger => {
-            push_typed_integer(types, node_kinds, node_loads, next, count, cursor)
-        }
+        BaseToken::SuffixedInteger => { push_typed_integer(types, node_words, next, count, cursor) }
         BaseToken::CharLiteral => {
             let kind = ParseNode::CharLiteral;
-            push(node_kinds, node_loads, next, count, kind, at)
+            push(node_words, next, count, kind, at)
         }
         BaseToken::BoolLiteral => {
             let kind = ParseNode::BooleanLiteral;
-            push(node_kinds, node_loads, next, count, kind, at)
+            push(node_words, next, count, kind, at)
         }
-        BaseToken::StringLiteral => {
-            parse_strings(kinds, node_kinds, node_loads, next, count, cursor)
-        }
+        BaseToken::StringLiteral => { parse_strings(kinds, node_words, next, count, cursor) }
         _ => Parsed::Refused {
             number: Refusal::ExpectedPrimary,
             start: cursor,

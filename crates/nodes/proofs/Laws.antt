@@ -12,7 +12,8 @@ use Rattle.codes.specs.declared.Parsed.{Parsed}
 use Rattle.codes.specs.declared.Parsed.the-variants.{Node, Refused}
 use Rattle.codes.specs.declared.NodeId.{NodeId}
 use Rattle.codes.specs.declared.TokenId.{TokenId}
-use Rattle.codes.specs.Answer.{As, Gives, nodes, token, nodeId, refusal}
+use Rattle.codes.specs.Answer.{token, nodeId, refusal}
+use Rattle.codes.specs.Words.{As, Gives, nodes}
 use Rattle.codes.proofs.Onto.{Onto, stays, reads, answers, declines, shows, told, hands-on, came-read}
 use Rattle.codes.proofs.Onto.{plain-parsed, Holding}
 use Rattle.nodes.specs.declared.ActiveList.{ActiveList}
@@ -23,46 +24,52 @@ use Rattle.nodes.specs.Answer.{ends, active, past, listed, appendTwo}
 use Rattle.rules.specs.Codes.ParseNode as ParseNode
 use Rattle.rules.specs.Codes.Refusal as Refusal
 use Rattle.rules.specs.Reading.{Rule, pure, _>>=_}
-use Rattle.rules.specs.Columns.{Nodes, Ends, append, patch, extended, ended, pushListItem, pushEndOfList}
+use Rattle.rules.specs.Lists.{Ends, extended, ended}
+use Rattle.rules.specs.Lists as Lists
+use Rattle.rules.specs.Words.{Words, packed, append, patch, pushListItem, pushEndOfList}
+
+-- a word is stored
+pub stored : (ws : List ℕ) (n : ℕ) {w x : ℕ} → w ≡ x → set ws n w ≡ set ws n x
+stored ws n e = rw e refl
 
 -- an append, by whether there is a slot
-module _ (k l c : ℕ) (ks ls : List ℕ) (n : ℕ) where
+module _ (k l c : ℕ) (ks : List ℕ) (n : ℕ) where
   pub appended :
       n < length ks →
-      Gives (append k l) c (nodes ks ls n) (Node (nodeId n) (token c) (n + 1)) (set ks n k) (set ls n l)
+      {w : ℕ} → w ≡ packed k l → Gives (append k l) c (nodes ks n) (Node (nodeId n) (token c) (n + 1)) (set ks n w)
   unfolding append
-  appended h = answers (record { same = rw (lt-ltb _ _ h) refl })
+  appended h e = answers (record { same = rw (lt-ltb _ _ h, e) refl })
 
-  pub full : length ks ≤ n → Gives (append k l) c (nodes ks ls n) (refusal Refusal.NoSlot c c c n) ks ls
+  pub full : length ks ≤ n → Gives (append k l) c (nodes ks n) (refusal Refusal.NoSlot c c c n) ks
   unfolding append
   full h = declines (record { same = rw (le-ltb _ _ h) refl })
 
 -- an append, and what then reads its node and does nothing more
 pub append-only :
-    (kind load : ℕ) {c : ℕ} {s : Nodes} (f : ℕ → Rule Nodes ℕ) → ((n : ℕ) (t : Nodes) → Onto (f n) c t (pure n) c t) →
+    (kind load : ℕ) {c : ℕ} {s : Words} (f : ℕ → Rule Words ℕ) → ((n : ℕ) (t : Words) → Onto (f n) c t (pure n) c t) →
     Onto (append kind load >>= f) c s (append kind load) c s
 unfolding append _>>=_
-append-only kind load {c} {s} f h = go (ltb (s .count) (length (s .kinds))) refl
+append-only kind load {c} {s} f h = go (ltb (s .count) (length (s .words))) refl
   where
     go :
-        (b : Bool) → ltb (s .count) (length (s .kinds)) ≡ b →
+        (b : Bool) → ltb (s .count) (length (s .words)) ≡ b →
         Onto (append kind load >>= f) c s (append kind load) c s
     go true e = record { same = rw e (h _ _ .same) }
     go false e = record { same = rw e refl }
 
 -- two nodes
-module _ (kind load kind' load' : ℕ) {c : ℕ} {s : Nodes} {r₁ : Parsed} {ks₁ ls₁ : List ℕ}
-    (g : Gives (append kind load) c s r₁ ks₁ ls₁) where
+module _ (kind load kind' load' : ℕ) {c : ℕ} {s : Words} {r₁ : Parsed} {ks₁ : List ℕ}
+    (g : Gives (append kind load) c s r₁ ks₁) where
   pub two-refused :
-      {x : ℕ} {a e p : TokenId} {j : ℕ} → r₁ ≡ Refused x a e p j →
-      Gives (appendTwo kind load kind' load') c s r₁ ks₁ ls₁
+      {x : ℕ} {a e p : TokenId} {j : ℕ} → r₁ ≡ Refused x p j a e →
+      Gives (appendTwo kind load kind' load') c s r₁ ks₁
   unfolding appendTwo
   two-refused q = hands-on _ stays (told g q)
 
   pub two-read :
-      {n : NodeId} {p : TokenId} {j : ℕ} → r₁ ≡ Node n p j → {r : Parsed} {ks ls : List ℕ} →
-      Gives (append kind' load') (p .0) (nodes ks₁ ls₁ j) r ks ls →
-      Gives (appendTwo kind load kind' load') c s r ks ls
+      {n : NodeId} {p : TokenId} {j : ℕ} → r₁ ≡ Node n p j → {r : Parsed} {ks : List ℕ} →
+      Gives (append kind' load') (p .0) (nodes ks₁ j) r ks →
+      Gives (appendTwo kind load kind' load') c s r ks
   unfolding appendTwo
   two-read q d = shows (reads _ (came-read plain-parsed g q)) d
 
@@ -90,14 +97,18 @@ holding-listed = record {
 
 -- the list with one item more, by the answer
 pub came-listed :
-    {m : Rule Nodes (Option Ends)} {c : ℕ} {s : Nodes} {o : Listed} {ks ls : List ℕ} → As listed m c s o ks ls →
-    {l : ActiveList} {p : TokenId} {j : ℕ} → o ≡ Items l p j → Onto m c s (pure (ends l)) (p .0) (nodes ks ls j)
+    {m : Rule Words (Option Ends)} {c : ℕ} {s : Words} {o : Listed} {ks : List ℕ} → As listed m c s o ks →
+    {l : ActiveList} {p : TokenId} {j : ℕ} → o ≡ Items l p j → Onto m c s (pure (ends l)) (p .0) (nodes ks j)
 came-listed g {l} {p} {j} q = came-read (holding-listed .plain) g (q ∙ ap (λ m. Items m p j) (sym (active-ends l)))
 
--- the place after the last item
-pub past-last : {l : ActiveList} {f e : NodeId} → l ≡ Open f e → past l ≡ e .0 + 1
+-- the place after the items
+pub past-first : {l : ActiveList} {f e : NodeId} → l ≡ Open f e → f .0 < past l
 unfolding past
-past-last q = rw q
+past-first q = rw q (omega arith)
+
+pub past-last : {l : ActiveList} {f e : NodeId} → l ≡ Open f e → e .0 < past l
+unfolding past
+past-last q = rw q (omega arith)
 
 pub past-none : (l : ActiveList) → ends l ≡ none → past l ≡ 0
 unfolding past
@@ -105,48 +116,48 @@ past-none Empty q = refl
 past-none (Open f e) q = let z : _≡_ {A = ℕ} 0 1 = cc in absurd (omega arith)
 
 -- what a patch leaves
-abbrev pub Patched : List ℕ → List ℕ → ℕ → ℕ → List ℕ → List ℕ → Type 0
-Patched ks ls item next ks' ls' = (ks' ≡ set ks item ParseNode.ListItem) × (ls' ≡ set ls item next)
+abbrev pub Patched : List ℕ → ℕ → ℕ → List ℕ → Type 0
+Patched ws item next ws' = ws' ≡ set ws item (packed ParseNode.ListItem next)
 
-module _ (l : ActiveList) {c k : ℕ} {ks ls : List ℕ} {r₁ : Parsed} {ks₁ ls₁ : List ℕ} where
-  module _ (g : Gives (append ParseNode.UnpatchedListItem 0) c (nodes ks ls k) r₁ ks₁ ls₁) where
+module _ (l : ActiveList) {c k : ℕ} {ks : List ℕ} {r₁ : Parsed} {ks₁ : List ℕ} where
+  module _ (g : Gives (append ParseNode.UnpatchedListItem 0) c (nodes ks k) r₁ ks₁) where
     pub item-refused :
-        {x : ℕ} {a e p : TokenId} {j : ℕ} → r₁ ≡ Refused x a e p j →
-        As listed (pushListItem (ends l)) c (nodes ks ls k) (Full r₁) ks₁ ls₁
-    unfolding pushListItem
+        {x : ℕ} {a e p : TokenId} {j : ℕ} → r₁ ≡ Refused x p j a e →
+        As listed (pushListItem (ends l)) c (nodes ks k) (Full r₁) ks₁
+    unfolding Lists.pushListItem
     item-refused q = hands-on _ stays (told g q)
 
     pub item-first :
         {n : NodeId} {p : TokenId} {j : ℕ} → r₁ ≡ Node n p j → l ≡ Empty →
-        As listed (pushListItem (ends l)) c (nodes ks ls k) (Items (Open n n) p j) ks₁ ls₁
-    unfolding pushListItem extended
+        As listed (pushListItem (ends l)) c (nodes ks k) (Items (Open n n) p j) ks₁
+    unfolding Lists.pushListItem extended
     item-first q e = rw e (answers (reads _ (came-read plain-parsed g q)))
 
     pub item-more :
-        {n : NodeId} {p : TokenId} {j : ℕ} → r₁ ≡ Node n p j → {f e : NodeId} → l ≡ Open f e → {ks' ls' : List ℕ} →
-        Patched ks₁ ls₁ (e .0) (n .0) ks' ls' →
-        As listed (pushListItem (ends l)) c (nodes ks ls k) (Items (Open f n) p j) ks' ls'
-    unfolding pushListItem extended patch _>>=_
+        {n : NodeId} {p : TokenId} {j : ℕ} → r₁ ≡ Node n p j → {f e : NodeId} → l ≡ Open f e → {ks' : List ℕ} →
+        Patched ks₁ (e .0) (n .0) ks' →
+        As listed (pushListItem (ends l)) c (nodes ks k) (Items (Open f n) p j) ks'
+    unfolding Lists.pushListItem extended patch _>>=_
     item-more q e w =
-        rw e (shows (reads _ (came-read plain-parsed g q)) (record { reply = refl; kinds = w .0; loads = w .1 }))
+        rw e (shows (reads _ (came-read plain-parsed g q)) (record { reply = refl; words = w }))
 
-  module _ (g : Gives (append ParseNode.NoMoreItems 0) c (nodes ks ls k) r₁ ks₁ ls₁) where
+  module _ (g : Gives (append ParseNode.NoMoreItems 0) c (nodes ks k) r₁ ks₁) where
     pub end-refused :
-        {x : ℕ} {a e p : TokenId} {j : ℕ} → r₁ ≡ Refused x a e p j →
-        Gives (pushEndOfList (ends l)) c (nodes ks ls k) r₁ ks₁ ls₁
-    unfolding pushEndOfList
+        {x : ℕ} {a e p : TokenId} {j : ℕ} → r₁ ≡ Refused x p j a e →
+        Gives (pushEndOfList (ends l)) c (nodes ks k) r₁ ks₁
+    unfolding Lists.pushEndOfList
     end-refused q = hands-on _ stays (told g q)
 
     pub end-empty :
         {n : NodeId} {p : TokenId} {j : ℕ} → r₁ ≡ Node n p j → l ≡ Empty →
-        Gives (pushEndOfList (ends l)) c (nodes ks ls k) (Node n p j) ks₁ ls₁
-    unfolding pushEndOfList ended
+        Gives (pushEndOfList (ends l)) c (nodes ks k) (Node n p j) ks₁
+    unfolding Lists.pushEndOfList ended
     end-empty q e = rw e (answers (reads _ (came-read plain-parsed g q)))
 
     pub end-patched :
-        {n : NodeId} {p : TokenId} {j : ℕ} → r₁ ≡ Node n p j → {f e : NodeId} → l ≡ Open f e → {ks' ls' : List ℕ} →
-        Patched ks₁ ls₁ (e .0) (n .0) ks' ls' →
-        Gives (pushEndOfList (ends l)) c (nodes ks ls k) (Node f p j) ks' ls'
-    unfolding pushEndOfList ended patch _>>=_
+        {n : NodeId} {p : TokenId} {j : ℕ} → r₁ ≡ Node n p j → {f e : NodeId} → l ≡ Open f e → {ks' : List ℕ} →
+        Patched ks₁ (e .0) (n .0) ks' →
+        Gives (pushEndOfList (ends l)) c (nodes ks k) (Node f p j) ks'
+    unfolding Lists.pushEndOfList ended patch _>>=_
     end-patched q e w =
-        rw e (shows (reads _ (came-read plain-parsed g q)) (record { reply = refl; kinds = w .0; loads = w .1 }))
+        rw e (shows (reads _ (came-read plain-parsed g q)) (record { reply = refl; words = w }))

@@ -1,5 +1,5 @@
 -- The answers of the code as the rules give them.
-use Prim.Native.Nat.{ℕ, _+_, _≤_}
+use Prim.Native.Nat.{ℕ, _+_, _≤_, max}
 use mathlib.Core.List.{List}
 use mathlib.Core.Option.{Option, some, none}
 use mathlib.Core.Path.{_≡_}
@@ -11,13 +11,13 @@ use Rattle.nodes.specs.declared.Listed.{Listed}
 use Rattle.nodes.specs.declared.Listed.the-variants.{List as Items, Full}
 use Rattle.rules.specs.Codes.Limit as Limit
 use Rattle.rules.specs.Reading.{Rule, _>>=_}
-use Rattle.rules.specs.Columns.{Nodes, Ends, append}
+use Rattle.rules.specs.Lists.{Ends}
+use Rattle.rules.specs.Words.{Words, append}
 
--- What is taken for granted of the node columns, kinds ks and loads ls, and of the node count.
-pub record Slots (ks ls : List ℕ) (count : ℕ) : Type 0 where
-  pub loads : length ls ≡ length ks
-  pub slots : length ks ≤ Limit.Slots
-  pub used : count ≤ length ks
+-- What is taken for granted of the node column and of the node count.
+pub record Slots (ws : List ℕ) (count : ℕ) : Type 0 where
+  pub slots : length ws ≤ Limit.Slots
+  pub used : count ≤ length ws
 
 -- an open list's first and last item
 abbrev pub ends : ActiveList → Option Ends
@@ -28,17 +28,17 @@ abbrev pub active : Option Ends → ActiveList
 active none = Empty
 active (some e) = Open (nodeId (e .first)) (nodeId (e .last))
 
--- the place after an open list's last item, 0 where it has none
+-- the place after an open list's items, 0 where it has none
 unfoldable pub past : ActiveList → ℕ
 past Empty = 0
-past (Open f l) = l .0 + 1
+past (Open f l) = max (f .0) (l .0) + 1
 
 -- a list with one item more
 abbrev pub listed : Form (Option Ends) Listed
 listed = record { read = λ l cursor count. Items (active l) (token cursor) count; refused = Full }
 
 -- two nodes, of which the second one is what is read
-unfoldable pub appendTwo : ℕ → ℕ → ℕ → ℕ → Rule Nodes ℕ
+unfoldable pub appendTwo : ℕ → ℕ → ℕ → ℕ → Rule Words ℕ
 appendTwo kind load kind' load' = do
   _ ← append kind load
   append kind' load'

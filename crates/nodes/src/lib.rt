@@ -1,12 +1,13 @@
-// The node columns, after ParseBuffer of the Rust's parser/parse_tree.rs. The node count and the open list are passed
+// The node words, after ParseBuffer of the Rust's parser/parse_tree.rs. The node count and the open list are passed
 // and returned by value. Where the slots are used up the answer is refusal 33, and what was appended before stays.
 ghost use mathlib.Core.Option.{none};
 ghost use mathlib.Core.Path.{_≡_};
 ghost use Prim.Native.Nat.{_≤_, _<_};
 ghost use lib.ListN.{length, set};
+ghost use Rattle.rules.specs.Codes.Limit as Most;
 ghost use Rattle.rules.specs.Codes.ParseNode as Kind;
-ghost use Rattle.rules.specs.Columns.{append, pushListItem, pushEndOfList};
-ghost use Rattle.codes.specs.Answer.{As, Gives, nodes};
+ghost use Rattle.rules.specs.Words.{packed, append, pushListItem, pushEndOfList};
+ghost use Rattle.codes.specs.Words.{As, Gives, nodes};
 ghost use Rattle.nodes.specs.Answer.{listed, ends, past, Slots, appendTwo};
 use codes::NodeId;
 use codes::ParseNode;
@@ -33,21 +34,13 @@ pub enum Listed {
 }
 
 // A node is appended.
-pub fn push(
-    node_kinds: &mut [u8],
-    node_loads: &mut [u32],
-    cursor: TokenId,
-    count: u32,
-    kind: u8,
-    load: u32,
-) -> Parsed
-    requires { ⌜ Slots (now «node_kinds») (now «node_loads») count ⌝ }
-    ensures { λ r. ⌜ Gives (append kind load) (cursor .0) (nodes (now («node_kinds» .entry)) (now («node_loads» .entry)) count) r (now («node_kinds» .exit)) (now («node_loads» .exit)) ⌝ }
+pub fn push(node_words: &mut [u32], cursor: TokenId, count: u32, kind: u8, load: u32) -> Parsed
+    requires { ⌜ Slots (now «node_words») count × (load ≤ Most.Load) ⌝ }
+    ensures { λ r. ⌜ Gives (append kind load) (cursor .0) (nodes (now («node_words» .entry)) count) r (now («node_words» .exit)) ⌝ }
 {
     let at = count as usize;
-    if at < node_kinds.len() {
-        node_kinds[at] = kind;
-        node_loads[at] = load;
+    if at < node_words.len() {
+        node_words[at] = codes::word(kind, load);
         Parsed::Node {
             root: NodeId(count),
             cursor,
@@ -66,8 +59,7 @@ pub fn push(
 
 // Two nodes are appended.
 pub fn push_two(
-    node_kinds: &mut [u8],
-    node_loads: &mut [u32],
+    node_words: &mut [u32],
     cursor: TokenId,
     count: u32,
     kind: u8,
@@ -75,10 +67,10 @@ pub fn push_two(
     second_kind: u8,
     second_load: u32,
 ) -> Parsed
-    requires { ⌜ Slots (now «node_kinds») (now «node_loads») count ⌝ }
-    ensures { λ r. ⌜ Gives (appendTwo kind load «second_kind» «second_load») (cursor .0) (nodes (now («node_kinds» .entry)) (now («node_loads» .entry)) count) r (now («node_kinds» .exit)) (now («node_loads» .exit)) ⌝ }
+    requires { ⌜ Slots (now «node_words») count × (load ≤ Most.Load) × («second_load» ≤ Most.Load) ⌝ }
+    ensures { λ r. ⌜ Gives (appendTwo kind load «second_kind» «second_load») (cursor .0) (nodes (now («node_words» .entry)) count) r (now («node_words» .exit)) ⌝ }
 {
-    let first = push(node_kinds, node_loads, cursor, count, kind, load);
+    let first = push(node_words, cursor, count, kind, load);
     let Parsed::Node {
         root: _,
         cursor: after,
@@ -87,66 +79,32 @@ pub fn push_two(
     else {
         return first;
     };
-    push(
-        node_kinds,
-        node_loads,
-        after,
-        used,
-        second_kind,
-        second_load,
-    )
+    push(node_words, after, used, second_kind, second_load)
 }
 
 // A node that links to one before it.
-pub fn push_older_node(
-    node_kinds: &mut [u8],
-    node_loads: &mut [u32],
-    cursor: TokenId,
-    count: u32,
-    node: NodeId,
-) -> Parsed
-    requires { ⌜ Slots (now «node_kinds») (now «node_loads») count ⌝ }
-    ensures { λ r. ⌜ Gives (append Kind.Item (node .0)) (cursor .0) (nodes (now («node_kinds» .entry)) (now («node_loads» .entry)) count) r (now («node_kinds» .exit)) (now («node_loads» .exit)) ⌝ }
+pub fn push_older_node(node_words: &mut [u32], cursor: TokenId, count: u32, node: NodeId) -> Parsed
+    requires { ⌜ Slots (now «node_words») count × (node .0 ≤ Most.Load) ⌝ }
+    ensures { λ r. ⌜ Gives (append Kind.Item (node .0)) (cursor .0) (nodes (now («node_words» .entry)) count) r (now («node_words» .exit)) ⌝ }
 {
-    push(
-        node_kinds,
-        node_loads,
-        cursor,
-        count,
-        ParseNode::Item,
-        node.0,
-    )
+    push(node_words, cursor, count, ParseNode::Item, node.0)
 }
 
 // A node that links to a list's first item, or to its end where it has none.
-pub fn push_list(
-    node_kinds: &mut [u8],
-    node_loads: &mut [u32],
-    cursor: TokenId,
-    count: u32,
-    first: NodeId,
-) -> Parsed
-    requires { ⌜ Slots (now «node_kinds») (now «node_loads») count ⌝ }
-    ensures { λ r. ⌜ Gives (append Kind.List (first .0)) (cursor .0) (nodes (now («node_kinds» .entry)) (now («node_loads» .entry)) count) r (now («node_kinds» .exit)) (now («node_loads» .exit)) ⌝ }
+pub fn push_list(node_words: &mut [u32], cursor: TokenId, count: u32, first: NodeId) -> Parsed
+    requires { ⌜ Slots (now «node_words») count × (first .0 ≤ Most.Load) ⌝ }
+    ensures { λ r. ⌜ Gives (append Kind.List (first .0)) (cursor .0) (nodes (now («node_words» .entry)) count) r (now («node_words» .exit)) ⌝ }
 {
-    push(
-        node_kinds,
-        node_loads,
-        cursor,
-        count,
-        ParseNode::List,
-        first.0,
-    )
+    push(node_words, cursor, count, ParseNode::List, first.0)
 }
 
 // The item links to the node that follows it.
-fn patch_list_item(node_kinds: &mut [u8], node_loads: &mut [u32], item: NodeId, next: NodeId)
-    requires { ⌜ (item .0 < length (now «node_kinds»)) × (length (now «node_loads») ≡ length (now «node_kinds»)) ⌝ }
-    ensures { λ r. ⌜ (now («node_kinds» .exit) ≡ set (now («node_kinds» .entry)) (item .0) Kind.ListItem) × (now («node_loads» .exit) ≡ set (now («node_loads» .entry)) (item .0) (next .0)) ⌝ }
+fn patch_list_item(node_words: &mut [u32], item: NodeId, next: NodeId)
+    requires { ⌜ (item .0 < length (now «node_words»)) × (next .0 ≤ Most.Load) ⌝ }
+    ensures { λ r. ⌜ now («node_words» .exit) ≡ set (now («node_words» .entry)) (item .0) (packed Kind.ListItem (next .0)) ⌝ }
 {
     let at = item.0 as usize;
-    node_kinds[at] = ParseNode::ListItem;
-    node_loads[at] = next.0;
+    node_words[at] = codes::word(ParseNode::ListItem, next.0);
 }
 
 // A list with no item yet.
@@ -158,23 +116,15 @@ pub fn start_list() -> ActiveList
 
 // An item is appended after its content, unfinished; the one before it is patched.
 pub fn push_list_item(
-    node_kinds: &mut [u8],
-    node_loads: &mut [u32],
+    node_words: &mut [u32],
     cursor: TokenId,
     count: u32,
     list: ActiveList,
 ) -> Listed
-    requires { ⌜ Slots (now «node_kinds») (now «node_loads») count × (past list ≤ count) ⌝ }
-    ensures { λ r. ⌜ As listed (pushListItem (ends list)) (cursor .0) (nodes (now («node_kinds» .entry)) (now («node_loads» .entry)) count) r (now («node_kinds» .exit)) (now («node_loads» .exit)) ⌝ }
+    requires { ⌜ Slots (now «node_words») count × (past list ≤ count) ⌝ }
+    ensures { λ r. ⌜ As listed (pushListItem (ends list)) (cursor .0) (nodes (now («node_words» .entry)) count) r (now («node_words» .exit)) ⌝ }
 {
-    let item = push(
-        node_kinds,
-        node_loads,
-        cursor,
-        count,
-        ParseNode::UnpatchedListItem,
-        0,
-    );
+    let item = push(node_words, cursor, count, ParseNode::UnpatchedListItem, 0);
     let Parsed::Node {
         root,
         cursor: after,
@@ -193,7 +143,7 @@ pub fn push_list_item(
             count: used,
         },
         ActiveList::Open { first, last } => {
-            patch_list_item(node_kinds, node_loads, last, root);
+            patch_list_item(node_words, last, root);
             Listed::List {
                 list: ActiveList::Open { first, last: root },
                 cursor: after,
@@ -205,23 +155,15 @@ pub fn push_list_item(
 
 // The list's end is appended, and its last item patched. The root is its first item, or the end where it has none.
 pub fn push_end_of_list(
-    node_kinds: &mut [u8],
-    node_loads: &mut [u32],
+    node_words: &mut [u32],
     cursor: TokenId,
     count: u32,
     list: ActiveList,
 ) -> Parsed
-    requires { ⌜ Slots (now «node_kinds») (now «node_loads») count × (past list ≤ count) ⌝ }
-    ensures { λ r. ⌜ Gives (pushEndOfList (ends list)) (cursor .0) (nodes (now («node_kinds» .entry)) (now («node_loads» .entry)) count) r (now («node_kinds» .exit)) (now («node_loads» .exit)) ⌝ }
+    requires { ⌜ Slots (now «node_words») count × (past list ≤ count) ⌝ }
+    ensures { λ r. ⌜ Gives (pushEndOfList (ends list)) (cursor .0) (nodes (now («node_words» .entry)) count) r (now («node_words» .exit)) ⌝ }
 {
-    let end = push(
-        node_kinds,
-        node_loads,
-        cursor,
-        count,
-        ParseNode::NoMoreItems,
-        0,
-    );
+    let end = push(node_words, cursor, count, ParseNode::NoMoreItems, 0);
     let Parsed::Node {
         root,
         cursor: after,
@@ -233,7 +175,7 @@ pub fn push_end_of_list(
     match list {
         ActiveList::Empty => end,
         ActiveList::Open { first, last } => {
-            patch_list_item(node_kinds, node_loads, last, root);
+            patch_list_item(node_words, last, root);
             Parsed::Node {
                 root: first,
                 cursor: after,

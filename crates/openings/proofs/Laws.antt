@@ -3,12 +3,13 @@ use mathlib.Core.Path.{_≡_, refl, sym, _∙_}
 use mathlib.Core.Bool.{Bool, true, false}
 use mathlib.Core.Option.{none}
 use mathlib.Core.List.{List, [], _∷_}
-use Prim.Native.Nat.{ℕ, _+_}
+use Prim.Native.Nat.{ℕ, _+_, _≤_}
 use native.Mathlib.Omega.{arith}
 use mathlib.Core.Logic.{_⊎_, inl, inr}
 use Rattle.codes.specs.declared.Parsed.{Parsed}
 use Rattle.codes.specs.declared.TokenId.{TokenId}
-use Rattle.codes.specs.Answer.{Quiet, Sized, row, token}
+use Rattle.codes.specs.Answer.{row, token}
+use Rattle.codes.specs.Words.{Quiet, Sized}
 use Rattle.codes.proofs.Onto.{Onto, _then_, first, stays, reads, at-here, takes, shows, held, hands-on, came-read}
 use Rattle.codes.proofs.Onto.{Rest, sized-after}
 use Rattle.codes.proofs.Loops.{round-last}
@@ -19,32 +20,34 @@ use Rattle.tokens.proofs.Laws.{holding-consumed, there, not-there, apart}
 use Rattle.tokens.proofs.Bounds.{past-token, past-consumed}
 use Rattle.references.specs.declared.Address.{Address}
 use Rattle.references.specs.declared.Address.the-variants.{Name as At, Refused as NoName}
-use Rattle.references.specs.Answer.{addressed, addressing}
+use Rattle.references.specs.Answer.{addressed, addressing, Near}
 use Rattle.references.proofs.Laws.{holding-addressed}
 use Rattle.lists.specs.declared.Owner.the-variants.{Call, Elements}
+use Rattle.lists.specs.Answer.{Small}
 use Rattle.openings.specs.declared.Opening.{Opening}
 use Rattle.openings.specs.declared.Opening.the-variants.{List as Items, Fields, Reference, Name, Group, Literal}
 use Rattle.openings.specs.declared.Opening.the-variants.{Refused}
-use Rattle.openings.specs.Answer.{Holds, Onward, Opens, Starts, listed, referred, alone, grouped}
+use Rattle.openings.specs.Answer.{Holds, Onward, Opens, Starts, Fits, listed, referred, alone, grouped}
 use Rattle.openings.specs.Answer.{naming, calling, pointing, primaryOr}
 use Rattle.rules.specs.Codes.BaseToken as BaseToken
+use Rattle.rules.specs.Codes.Limit as Limit
 use Rattle.rules.specs.Reading.{Rule, _>>=_, choose}
-use Rattle.rules.specs.Columns.{Nodes, columns, pushEndOfList}
+use Rattle.rules.specs.Words.{Words, words, pushEndOfList}
 use Rattle.rules.specs.Expressions.{named, builtin, pointer, reference, primary, stepped, steps, step, deref}
 use Rattle.rules.specs.Expressions.{nameAlone, elements}
 use Rattle.rules.proofs.Forward.{Nonzero}
-use Rattle.rules.proofs.Demand.{below}
+use Rattle.rules.proofs.Forward.{below}
 use Rattle.rules.proofs.Moves.{address-moves}
 
 -- what every reader takes for granted holds after a name and the ampersands before it
 past-address :
-    (tk tv : List ℕ) (start : ℕ) (ns ls : List ℕ) {c k : ℕ} {a : Address} →
+    (tk tv : List ℕ) (start : ℕ) (ns : List ℕ) {c k : ℕ} {a : Address} →
     Quiet addressed (addressing start) tk c k a →
-    {depth : ℕ} {name p : TokenId} {j : ℕ} → a ≡ At depth name p j → Sized tk tv ns ls c k → Sized tk tv ns ls (p .0) j
+    {depth : ℕ} {name p : TokenId} {j : ℕ} → a ≡ At depth name p j → Sized tk tv ns c k → Sized tk tv ns (p .0) j
 unfolding addressing
-past-address tk tv start ns ls {c = c} g e z =
+past-address tk tv start ns {c = c} g e z =
     sized-after z (holding-addressed .plain) (address-moves (below (row tk tv)) (omega arith) start c)
-    (g .run tv ns ls) e .0
+    (g .run tv ns) e .0
 
 -- after a name, by the next token
 module _ (tk : List ℕ) (name : TokenId) (c t k : ℕ) (peeked : t ≡ kindIn tk c) where
@@ -52,31 +55,31 @@ module _ (tk : List ℕ) (name : TokenId) (c t k : ℕ) (peeked : t ≡ kindIn t
       t ≡ BaseToken.ParenLeft → Opens (naming (name .0)) tk (name .0) c k (Items (token (c + 1)) k (Call name 0))
   unfolding Opens naming listed named
   call-opens e = record {
-    same = λ tv expr ks ls. reads _ (there tk c t peeked tv _ e) .same;
-    sized = λ tv ks ls z. past-token t _ peeked e refl z;
+    same = λ tv expr ks. reads _ (there tk c t peeked tv _ e) .same;
+    sized = λ tv ks z. past-token t _ peeked e refl z;
   }
 
   pub fields-open :
       t ≡ BaseToken.BraceLeft → Opens (naming (name .0)) tk (name .0) c k (Fields (token (c + 1)) k name)
   unfolding Opens naming listed named
   fields-open e = record {
-    same = λ tv expr ks ls.
+    same = λ tv expr ks.
         (reads _ (not-there tk c t peeked tv _ (apart t _ _ refl e)) then reads _ (there tk c t peeked tv _ e)) .same;
-    sized = λ tv ks ls z. past-token t _ peeked e refl z;
+    sized = λ tv ks z. past-token t _ peeked e refl z;
   }
 
   -- neither arguments nor fields follow
   steps-follow :
-      (t ≡ BaseToken.ParenLeft → ⊥) → (t ≡ BaseToken.BraceLeft → ⊥) → (tv : List ℕ) (expr : Rule Nodes ℕ) {s : Nodes} →
-      Onto (named columns (row tk tv) expr (name .0)) c s (stepped columns (row tk tv) expr (name .0) 0 (name .0)) c s
+      (t ≡ BaseToken.ParenLeft → ⊥) → (t ≡ BaseToken.BraceLeft → ⊥) → (tv : List ℕ) (expr : Rule Words ℕ) {s : Words} →
+      Onto (named words (row tk tv) expr (name .0)) c s (stepped words (row tk tv) expr (name .0) 0 (name .0)) c s
   unfolding named
   steps-follow h h' tv expr = reads _ (not-there tk c t peeked tv _ h) then reads _ (not-there tk c t peeked tv _ h')
 
   -- no step follows
   no-steps :
-      (tv : List ℕ) (expr : Rule Nodes ℕ) {s : Nodes} → (t ≡ BaseToken.BracketLeft → ⊥) → (t ≡ BaseToken.Dot → ⊥) →
-      Onto (stepped columns (row tk tv) expr (name .0) 0 (name .0)) c s
-      (pushEndOfList none >>= λ l. deref columns (name .0) 0 (name .0) l) c s
+      (tv : List ℕ) (expr : Rule Words ℕ) {s : Words} → (t ≡ BaseToken.BracketLeft → ⊥) → (t ≡ BaseToken.Dot → ⊥) →
+      Onto (stepped words (row tk tv) expr (name .0) 0 (name .0)) c s
+      (pushEndOfList none >>= λ l. deref words (name .0) 0 (name .0) l) c s
   unfolding stepped steps step
   no-steps tv expr h h' =
       first _ (at-here _ then reads _ (round-last _ _ _
@@ -87,12 +90,12 @@ module _ (tk : List ℕ) (name : TokenId) (c t k : ℕ) (peeked : t ≡ kindIn t
       Opens (naming (name .0)) tk (name .0) c k (Reference (token c) k false 0 name)
   unfolding Opens naming referred
   steps-open (inl e) = record {
-    same = λ tv expr ks ls. steps-follow (apart t _ _ refl e) (apart t _ _ refl e) tv expr .same;
-    sized = λ tv ks ls z. z;
+    same = λ tv expr ks. steps-follow (apart t _ _ refl e) (apart t _ _ refl e) tv expr .same;
+    sized = λ tv ks z. z;
   }
   steps-open (inr e) = record {
-    same = λ tv expr ks ls. steps-follow (apart t _ _ refl e) (apart t _ _ refl e) tv expr .same;
-    sized = λ tv ks ls z. z;
+    same = λ tv expr ks. steps-follow (apart t _ _ refl e) (apart t _ _ refl e) tv expr .same;
+    sized = λ tv ks z. z;
   }
 
   -- a name with no step
@@ -102,10 +105,10 @@ module _ (tk : List ℕ) (name : TokenId) (c t k : ℕ) (peeked : t ≡ kindIn t
       Opens (naming (name .0)) tk (name .0) c k (Name (token c) k)
   unfolding Opens naming alone nameAlone
   name-opens h = record {
-    same = λ tv expr ks ls.
+    same = λ tv expr ks.
         (steps-follow (h .0 .0 .1) (h .0 .1) tv expr then no-steps tv expr (λ e. h .1 (inl e))
         (λ e. h .1 (inr e))) .same;
-    sized = λ tv ks ls z. z;
+    sized = λ tv ks z. z;
   }
 
 -- after a Builtin
@@ -115,13 +118,13 @@ module _ {tk : List ℕ} (name : TokenId) {c k : ℕ} {o : Consumed}
       {p : TokenId} {j : ℕ} → o ≡ Next p j → Opens (calling (name .0)) tk (name .0) c k (Items p j (Call name 1))
   unfolding Opens calling listed builtin consuming
   builtin-opens e = record {
-    same = λ tv expr ks ls. reads _ (came-read (holding-consumed .plain) (g .run tv ks ls) e) .same;
-    sized = λ tv ks ls z. past-consumed _ g e refl z;
+    same = λ tv expr ks. reads _ (came-read (holding-consumed .plain) (g .run tv ks) e) .same;
+    sized = λ tv ks z. past-consumed _ g e refl z;
   }
 
   pub builtin-refused : (r : Parsed) → o ≡ Wrong r → Opens (calling (name .0)) tk (name .0) c k (Refused r)
   unfolding Opens calling builtin consuming
-  builtin-refused r e tv expr ks ls = hands-on _ stays (held holding-consumed (g .run tv ks ls) e)
+  builtin-refused r e tv expr ks = hands-on _ stays (held holding-consumed (g .run tv ks) e)
 
 -- after an ampersand or a pipe
 module _ {tk : List ℕ} (start : ℕ) {c k : ℕ} {a : Address} (g : Quiet addressed (addressing start) tk c k a) where
@@ -130,13 +133,13 @@ module _ {tk : List ℕ} (start : ℕ) {c k : ℕ} {a : Address} (g : Quiet addr
       Opens (pointing start) tk start c k (Reference p j true depth name)
   unfolding Opens pointing referred pointer addressing
   pointer-opens e = record {
-    same = λ tv expr ks ls. reads _ (came-read (holding-addressed .plain) (g .run tv ks ls) e) .same;
-    sized = λ tv ks ls z. past-address tk tv start ks ls g e z;
+    same = λ tv expr ks. reads _ (came-read (holding-addressed .plain) (g .run tv ks) e) .same;
+    sized = λ tv ks z. past-address tk tv start ks g e z;
   }
 
   pub pointer-refused : (r : Parsed) → a ≡ NoName r → Opens (pointing start) tk start c k (Refused r)
   unfolding Opens pointing pointer addressing
-  pointer-refused r e tv expr ks ls = hands-on _ stays (held holding-addressed (g .run tv ks ls) e)
+  pointer-refused r e tv expr ks = hands-on _ stays (held holding-addressed (g .run tv ks) e)
 
 module _ {tk : List ℕ} {c k : ℕ} {a : Address} (g : Quiet addressed (addressing c) tk c k a) where
   pub pipe-opens :
@@ -144,13 +147,13 @@ module _ {tk : List ℕ} {c k : ℕ} {a : Address} (g : Quiet addressed (address
       Opens (primaryOr true) tk c c k (Reference p j false 0 name)
   unfolding Opens primaryOr referred reference addressing
   pipe-opens e = record {
-    same = λ tv expr ks ls. (at-here _ then reads _ (came-read (holding-addressed .plain) (g .run tv ks ls) e)) .same;
-    sized = λ tv ks ls z. past-address tk tv c ks ls g e z;
+    same = λ tv expr ks. (at-here _ then reads _ (came-read (holding-addressed .plain) (g .run tv ks) e)) .same;
+    sized = λ tv ks z. past-address tk tv c ks g e z;
   }
 
   pub pipe-refused : (r : Parsed) → a ≡ NoName r → Opens (primaryOr true) tk c c k (Refused r)
   unfolding Opens primaryOr reference addressing
-  pipe-refused r e tv expr ks ls = hands-on _ (at-here _) (held holding-addressed (g .run tv ks ls) e)
+  pipe-refused r e tv expr ks = hands-on _ (at-here _) (held holding-addressed (g .run tv ks) e)
 
 -- the primaries that hold a name or an expression, by their first token
 pub data Begins (start : ℕ) : ℕ → Holds → Type 0 where
@@ -162,8 +165,8 @@ pub data Begins (start : ℕ) : ℕ → Holds → Type 0 where
 
 module _ (tk : List ℕ) (c t k : ℕ) (peeked : t ≡ kindIn tk c) where
   begins :
-      {key : ℕ} {m : Holds} → Begins c key m → t ≡ key → (tv : List ℕ) (expr : Rule Nodes ℕ) {s : Nodes} →
-      Onto (primary columns (row tk tv) expr) c s (m (row tk tv) expr) (c + 1) s
+      {key : ℕ} {m : Holds} → Begins c key m → t ≡ key → (tv : List ℕ) (expr : Rule Words ℕ) {s : Words} →
+      Onto (primary words (row tk tv) expr) c s (m (row tk tv) expr) (c + 1) s
   unfolding primary choose naming calling pointing listed grouped
   begins with-name e tv expr = at-here _ then takes _ _ (sym e ∙ peeked)
   begins with-builtin e tv expr = at-here _ then takes _ _ (sym e ∙ peeked)
@@ -184,8 +187,8 @@ module _ (tk : List ℕ) (c t k : ℕ) (peeked : t ≡ kindIn tk c) where
       Onward (primaryOr false) tk c k m' p j
   unfolding primaryOr
   onward b e h = record {
-    same = λ tv expr ks ls. begins b e tv expr .same ∙ h .same tv expr ks ls;
-    sized = λ tv ks ls z. h .sized tv ks ls (past-token t _ peeked e (nonzero b) z);
+    same = λ tv expr ks. begins b e tv expr .same ∙ h .same tv expr ks;
+    sized = λ tv ks z. h .sized tv ks (past-token t _ peeked e (nonzero b) z);
   }
 
   opened :
@@ -198,7 +201,7 @@ module _ (tk : List ℕ) (c t k : ℕ) (peeked : t ≡ kindIn tk c) where
   opened b e (Name p j) h = onward b e h
   opened b e (Group p j) h = onward b e h
   opened b e (Literal u) h = absurd h
-  opened b e (Refused r) h = λ tv expr ks ls. shows (begins b e tv expr) (h tv expr ks ls)
+  opened b e (Refused r) h = λ tv expr ks. shows (begins b e tv expr) (h tv expr ks)
 
   module _ {piped : Bool} (not-piped : piped ≡ false) where
     pub primary-opens :
@@ -209,12 +212,12 @@ module _ (tk : List ℕ) (c t k : ℕ) (peeked : t ≡ kindIn tk c) where
     pub elements-open : t ≡ BaseToken.BracketLeft → Starts piped tk c k (Items (token (c + 1)) k Elements)
     unfolding Opens
     elements-open e =
-        primary-opens with-bracket e _ (record { same = λ tv expr ks ls. refl; sized = λ tv ks ls z. z })
+        primary-opens with-bracket e _ (record { same = λ tv expr ks. refl; sized = λ tv ks z. z })
 
     pub group-opens : t ≡ BaseToken.ParenLeft → Starts piped tk c k (Group (token (c + 1)) k)
     unfolding Opens
     group-opens e =
-        primary-opens with-parenthesis e _ (record { same = λ tv expr ks ls. refl; sized = λ tv ks ls z. z })
+        primary-opens with-parenthesis e _ (record { same = λ tv expr ks. refl; sized = λ tv ks z. z })
 
     pub literal-opens :
         Rest t (Unit {0}) (BaseToken.Identifier ∷ BaseToken.Builtin ∷ BaseToken.Ampersand ∷ BaseToken.BracketLeft ∷
@@ -247,3 +250,46 @@ pub reference-opens :
     (tk : List ℕ) (c k : ℕ) {piped : Bool} → piped ≡ true → (r : Opening) → Opens (primaryOr true) tk c c k r →
     Starts piped tk c k r
 reference-opens tk c k e r h = rw e (piped-opens tk c k r h)
+
+-- what an opening holds fits: an owner, a name, a depth and a name, or nothing
+module _ (p : TokenId) (k : ℕ) where
+  pub call-fits : {name : TokenId} {b : ℕ} → name .0 ≤ Limit.Load → b ≤ Limit.Load → Fits (Items p k (Call name b))
+  unfolding Fits Small
+  call-fits h g = (h, g)
+
+  pub elements-fit : Fits (Items p k Elements)
+  unfolding Fits Small
+  elements-fit = tt
+
+  pub fields-fit : {name : TokenId} → name .0 ≤ Limit.Load → Fits (Fields p k name)
+  unfolding Fits
+  fields-fit h = h
+
+  pub steps-fit : {name : TokenId} → name .0 ≤ Limit.Load → Fits (Reference p k false 0 name)
+  unfolding Fits
+  steps-fit h = (omega arith, h)
+
+  pub name-fits : Fits (Name p k)
+  unfolding Fits
+  name-fits = tt
+
+  pub group-fits : Fits (Group p k)
+  unfolding Fits
+  group-fits = tt
+
+module _ {a : Address} (h : Near a) {depth : ℕ} {name p : TokenId} {j : ℕ} (e : a ≡ At depth name p j) where
+  pub pointer-fits : Fits (Reference p j true depth name)
+  unfolding Fits Near
+  pointer-fits = rw e at h
+
+  pub pipe-fits : Fits (Reference p j false 0 name)
+  unfolding Fits Near
+  pipe-fits = let (_, x) = rw e at h in (omega arith, x)
+
+pub literal-fits : (t : ℕ) → Fits (Literal t)
+unfolding Fits
+literal-fits t = tt
+
+pub refused-fits : (r : Parsed) → Fits (Refused r)
+unfolding Fits
+refused-fits r = tt

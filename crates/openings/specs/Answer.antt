@@ -1,62 +1,64 @@
 -- The answers of the code as the rules give them.
-use Prim.Native.Nat.{ℕ}
+use Prim.Native.Nat.{ℕ, _≤_}
 use mathlib.Core.Bool.{Bool, false}
 use mathlib.Core.List.{List}
 use mathlib.Core.Path.{_≡_}
-use Rattle.codes.specs.Answer.{Gives, Sized, nodes, row}
+use Rattle.codes.specs.Answer.{row}
+use Rattle.codes.specs.Words.{Gives, Sized, nodes}
 use Rattle.tokens.specs.Answer.{kindIn}
-use Rattle.lists.specs.Answer.{ownerOf}
+use Rattle.lists.specs.Answer.{ownerOf, Small}
 use Rattle.openings.specs.declared.Opening.{Opening}
 use Rattle.openings.specs.declared.Opening.the-variants.{List as Items, Fields, Reference, Name, Group, Literal}
 use Rattle.openings.specs.declared.Opening.the-variants.{Refused}
 use Rattle.rules.specs.Codes.{pick}
 use Rattle.rules.specs.Codes.BaseToken as BaseToken
+use Rattle.rules.specs.Codes.Limit as Limit
 use Rattle.rules.specs.Reading.{Rule, Row, _>>=_}
-use Rattle.rules.specs.Columns.{Nodes, columns}
+use Rattle.rules.specs.Words.{Words, words}
 use Rattle.rules.specs.Expressions.{Owner, structural, items, stepped, advanced, nameAlone, parenthesized, named}
 use Rattle.rules.specs.Expressions.{builtin, pointer}
 use Rattle.rules.specs.Expressions.{reference, primary}
 
 -- a rule that holds expressions, for every row and every rule for an expression in it
 abbrev pub Holds : Type 0
-Holds = Row → Rule Nodes ℕ → Rule Nodes ℕ
+Holds = Row → Rule Words ℕ → Rule Words ℕ
 
 -- a list by what it belongs to
 unfoldable pub listed : Owner → Holds
-listed owner row expr = items columns row expr owner
+listed owner row expr = items words row expr owner
 
 -- a name that is taken, and its steps; after a pointer, `..` and an expression may follow
 unfoldable pub referred : ℕ → ℕ → ℕ → Bool → Holds
 referred start depth name isPointer row expr =
-    let reference = stepped columns row expr start depth name in
-    pick isPointer (reference >>= advanced columns row expr) reference
+    let reference = stepped words row expr start depth name in
+    pick isPointer (reference >>= advanced words row expr) reference
 
 unfoldable pub alone : ℕ → Holds
-alone name row expr = nameAlone columns name
+alone name row expr = nameAlone words name
 
 unfoldable pub grouped : Holds
-grouped row expr = parenthesized columns row expr
+grouped row expr = parenthesized words row expr
 
 -- the rules whose starts are read
 unfoldable pub naming : ℕ → Holds
-naming name row expr = named columns row expr name
+naming name row expr = named words row expr name
 
 unfoldable pub calling : ℕ → Holds
-calling name row expr = builtin columns row expr name
+calling name row expr = builtin words row expr name
 
 unfoldable pub pointing : ℕ → Holds
-pointing start row expr = pointer columns row expr start
+pointing start row expr = pointer words row expr start
 
 unfoldable pub primaryOr : Bool → Holds
-primaryOr piped row expr = pick piped (reference columns row expr) (primary columns row expr)
+primaryOr piped row expr = pick piped (reference words row expr) (primary words row expr)
 
 -- The rule m at the cursor c and with so many nodes goes on as m' at p and with j nodes, whatever the value types, the
--- rule for an expression and the node columns are. What every reader takes for granted holds there if it holds at c.
+-- rule for an expression and the node words are. What every reader takes for granted holds there if it holds at c.
 pub record Onward (m : Holds) (kinds : List ℕ) (c count : ℕ) (m' : Holds) (p j : ℕ) : Type 0 where
   pub same :
-      (types : List ℕ) (expr : Rule Nodes ℕ) (ks ls : List ℕ) →
-      m (row kinds types) expr c (nodes ks ls count) ≡ m' (row kinds types) expr p (nodes ks ls j)
-  pub sized : (types ks ls : List ℕ) → Sized kinds types ks ls c count → Sized kinds types ks ls p j
+      (types : List ℕ) (expr : Rule Words ℕ) (ks : List ℕ) →
+      m (row kinds types) expr c (nodes ks count) ≡ m' (row kinds types) expr p (nodes ks j)
+  pub sized : (types ks : List ℕ) → Sized kinds types ks c count → Sized kinds types ks p j
 
 -- the token at the cursor begins no primary that holds an expression or a name
 pub record Plain (kinds : List ℕ) (c t : ℕ) : Type 0 where
@@ -77,8 +79,8 @@ Opens m kinds start c count (Name p j) = Onward m kinds c count (alone start) (p
 Opens m kinds start c count (Group p j) = Onward m kinds c count grouped (p .0) j
 Opens m kinds start c count (Literal t) = ⊥
 Opens m kinds start c count (Refused r) =
-    (types : List ℕ) (expr : Rule Nodes ℕ) (ks ls : List ℕ) →
-    Gives (m (row kinds types) expr) c (nodes ks ls count) r ks ls
+    (types : List ℕ) (expr : Rule Words ℕ) (ks : List ℕ) →
+    Gives (m (row kinds types) expr) c (nodes ks count) r ks
 
 -- The same of a primary, or of a reference after a pipe: but a literal is read from the cursor on.
 unfoldable pub Starts : Bool → List ℕ → ℕ → ℕ → Opening → Type 0
@@ -90,3 +92,13 @@ Starts piped kinds c count (Reference p j isPointer depth name) =
 Starts piped kinds c count (Name p j) = Opens (primaryOr piped) kinds c c count (Name p j)
 Starts piped kinds c count (Group p j) = Opens (primaryOr piped) kinds c c count (Group p j)
 Starts piped kinds c count (Refused r) = Opens (primaryOr piped) kinds c c count (Refused r)
+
+-- what an opening holds fits the words that it becomes
+unfoldable pub Fits : Opening → Type 0
+Fits (Items p j owner) = Small owner
+Fits (Fields p j name) = name .0 ≤ Limit.Load
+Fits (Reference p j isPointer depth name) = (depth ≤ Limit.Load) × (name .0 ≤ Limit.Load)
+Fits (Name p j) = Unit {0}
+Fits (Group p j) = Unit {0}
+Fits (Literal t) = Unit {0}
+Fits (Refused r) = Unit {0}

@@ -3,11 +3,11 @@
 ghost use mathlib.Core.Path.{_≡_};
 ghost use Prim.Native.Nat.{_+_, _≤_};
 ghost use Rattle.rules.specs.Codes.Limit as Most;
-ghost use Rattle.rules.specs.Columns.{columns};
+ghost use Rattle.rules.specs.Words.{words};
 ghost use Rattle.rules.specs.Expressions.{first, binary, prefix, joinedTo, takesUnary};
-ghost use Rattle.codes.specs.Answer.{Gives, Untyped, nodes};
+ghost use Rattle.codes.specs.Words.{Gives, Untyped, nodes};
 ghost use Rattle.nodes.specs.Answer.{Slots};
-ghost use Rattle.operators.specs.Answer.{pend, meaning, joint, factors, terms, followers, among, afterOperand, factorJoined, termJoined};
+ghost use Rattle.operators.specs.Answer.{Fits, Next, pend, meaning, joint, factors, terms, followers, among, afterOperand, factorJoined, termJoined};
 use codes::BaseToken;
 use codes::BinaryOp;
 use codes::NodeId;
@@ -48,7 +48,7 @@ pub enum Joint {
 
 // Before the first operand.
 pub fn no_pending() -> Pending
-    ensures { λ r. ⌜ pend r ≡ first ⌝ }
+    ensures { λ r. ⌜ (pend r ≡ first) × Fits r ⌝ }
 {
     Pending {
         op: NO_OPERATOR,
@@ -74,8 +74,7 @@ pub fn takes_unary(pending: Pending) -> bool
 
 // The nodes of a binary operator, whose token is at `at`, after its right operand.
 pub fn push_binary(
-    node_kinds: &mut [u8],
-    node_loads: &mut [u32],
+    node_words: &mut [u32],
     cursor: TokenId,
     count: u32,
     left: NodeId,
@@ -83,10 +82,10 @@ pub fn push_binary(
     at: TokenId,
     right: NodeId,
 ) -> Parsed
-    requires { ⌜ Slots (now «node_kinds») (now «node_loads») count ⌝ }
-    ensures { λ r. ⌜ Gives (binary columns (at .0) op (left .0) (right .0)) (cursor .0) (nodes (now («node_kinds» .entry)) (now («node_loads» .entry)) count) r (now («node_kinds» .exit)) (now («node_loads» .exit)) ⌝ }
+    requires { ⌜ Slots (now «node_words») count × (left .0 ≤ Most.Load) × (op ≤ Most.Load) × (at .0 ≤ Most.Load) ⌝ }
+    ensures { λ r. ⌜ Gives (binary words (at .0) op (left .0) (right .0)) (cursor .0) (nodes (now («node_words» .entry)) count) r (now («node_words» .exit)) ⌝ }
 {
-    let item = push_older_node(node_kinds, node_loads, cursor, count, left);
+    let item = push_older_node(node_words, cursor, count, left);
     let Parsed::Node {
         root: _,
         cursor: after,
@@ -95,7 +94,7 @@ pub fn push_binary(
     else {
         return item;
     };
-    let operator = push(node_kinds, node_loads, after, used, ParseNode::BinaryOp, op);
+    let operator = push(node_words, after, used, ParseNode::BinaryOp, op);
     let Parsed::Node {
         root: _,
         cursor: last,
@@ -104,20 +103,19 @@ pub fn push_binary(
     else {
         return operator;
     };
-    push(node_kinds, node_loads, last, more, ParseNode::Binary, at.0)
+    push(node_words, last, more, ParseNode::Binary, at.0)
 }
 
 // The operand that was read last is joined with what stands left of it.
 fn push_pending(
-    node_kinds: &mut [u8],
-    node_loads: &mut [u32],
+    node_words: &mut [u32],
     cursor: TokenId,
     count: u32,
     right: NodeId,
     pending: Pending,
 ) -> Parsed
-    requires { ⌜ Slots (now «node_kinds») (now «node_loads») count ⌝ }
-    ensures { λ r. ⌜ Gives (joinedTo columns (pend pending) (right .0)) (cursor .0) (nodes (now («node_kinds» .entry)) (now («node_loads» .entry)) count) r (now («node_kinds» .exit)) (now («node_loads» .exit)) ⌝ }
+    requires { ⌜ Slots (now «node_words») count × Fits pending ⌝ }
+    ensures { λ r. ⌜ Gives (joinedTo words (pend pending) (right .0)) (cursor .0) (nodes (now («node_words» .entry)) count) r (now («node_words» .exit)) ⌝ }
 {
     let op = pending.op;
     if op == NO_OPERATOR {
@@ -129,7 +127,7 @@ fn push_pending(
     } else {
         let left = pending.left;
         let at = pending.at;
-        push_binary(node_kinds, node_loads, cursor, count, left, op, at, right)
+        push_binary(node_words, cursor, count, left, op, at, right)
     }
 }
 
@@ -207,17 +205,16 @@ fn after_operand(cursor: TokenId, count: u32, left: NodeId, op: u32) -> Joint
 // After an operand of a product: it is joined, and the next operator is looked for.
 pub fn join_factor(
     kinds: &[u8],
-    node_kinds: &mut [u8],
-    node_loads: &mut [u32],
+    node_words: &mut [u32],
     cursor: TokenId,
     count: u32,
     right: NodeId,
     pending: Pending,
 ) -> Joint
-    requires { ⌜ Slots (now «node_kinds») (now «node_loads») count × (cursor .0 ≤ Most.Tokens + 1) ⌝ }
-    ensures { λ r. ⌜ Untyped joint (factorJoined (pend pending) (right .0)) (now (kinds .entry)) (cursor .0) (nodes (now («node_kinds» .entry)) (now («node_loads» .entry)) count) (meaning r) (now («node_kinds» .exit)) (now («node_loads» .exit)) ⌝ }
+    requires { ⌜ Slots (now «node_words») count × (cursor .0 ≤ Most.Tokens + 1) × (right .0 ≤ Most.Load) × Fits pending ⌝ }
+    ensures { λ r. ⌜ Untyped joint (factorJoined (pend pending) (right .0)) (now (kinds .entry)) (cursor .0) (nodes (now («node_words» .entry)) count) (meaning r) (now («node_words» .exit)) × Next r ⌝ }
 {
-    let whole = push_pending(node_kinds, node_loads, cursor, count, right, pending);
+    let whole = push_pending(node_words, cursor, count, right, pending);
     let Parsed::Node {
         root,
         cursor: after,
@@ -233,17 +230,16 @@ pub fn join_factor(
 // After an operand of a sum, of a bitwise operator or of a shift.
 pub fn join_term(
     kinds: &[u8],
-    node_kinds: &mut [u8],
-    node_loads: &mut [u32],
+    node_words: &mut [u32],
     cursor: TokenId,
     count: u32,
     right: NodeId,
     pending: Pending,
 ) -> Joint
-    requires { ⌜ Slots (now «node_kinds») (now «node_loads») count × (cursor .0 ≤ Most.Tokens + 1) ⌝ }
-    ensures { λ r. ⌜ Untyped joint (termJoined (pend pending) (right .0)) (now (kinds .entry)) (cursor .0) (nodes (now («node_kinds» .entry)) (now («node_loads» .entry)) count) (meaning r) (now («node_kinds» .exit)) (now («node_loads» .exit)) ⌝ }
+    requires { ⌜ Slots (now «node_words») count × (cursor .0 ≤ Most.Tokens + 1) × (right .0 ≤ Most.Load) × Fits pending ⌝ }
+    ensures { λ r. ⌜ Untyped joint (termJoined (pend pending) (right .0)) (now (kinds .entry)) (cursor .0) (nodes (now («node_words» .entry)) count) (meaning r) (now («node_words» .exit)) × Next r ⌝ }
 {
-    let whole = push_pending(node_kinds, node_loads, cursor, count, right, pending);
+    let whole = push_pending(node_words, cursor, count, right, pending);
     let Parsed::Node {
         root,
         cursor: after,
@@ -258,25 +254,17 @@ pub fn join_term(
 
 // The nodes of the unary operator, whose token is at `at`, after its operand.
 pub fn push_prefix(
-    node_kinds: &mut [u8],
-    node_loads: &mut [u32],
+    node_words: &mut [u32],
     cursor: TokenId,
     count: u32,
     op: u32,
     at: TokenId,
     operand: NodeId,
 ) -> Parsed
-    requires { ⌜ Slots (now «node_kinds») (now «node_loads») count ⌝ }
-    ensures { λ r. ⌜ Gives (prefix columns (at .0) op (operand .0)) (cursor .0) (nodes (now («node_kinds» .entry)) (now («node_loads» .entry)) count) r (now («node_kinds» .exit)) (now («node_loads» .exit)) ⌝ }
+    requires { ⌜ Slots (now «node_words») count × (op ≤ Most.Load) × (at .0 ≤ Most.Load) ⌝ }
+    ensures { λ r. ⌜ Gives (prefix words (at .0) op (operand .0)) (cursor .0) (nodes (now («node_words» .entry)) count) r (now («node_words» .exit)) ⌝ }
 {
-    let operator = push(
-        node_kinds,
-        node_loads,
-        cursor,
-        count,
-        ParseNode::UnaryOp,
-        op,
-    );
+    let operator = push(node_words, cursor, count, ParseNode::UnaryOp, op);
     let Parsed::Node {
         root: _,
         cursor: after,
@@ -285,5 +273,5 @@ pub fn push_prefix(
     else {
         return operator;
     };
-    push(node_kinds, node_loads, after, used, ParseNode::Unary, at.0)
+    push(node_words, after, used, ParseNode::Unary, at.0)
 }

@@ -1,2 +1,6 @@
-pub mod Laws
+pub mod Checks
+pub mod Promises
+pub mod Splitting
+pub mod Entries
+pub mod Words
 pub mod Stars

@@ -24,12 +24,12 @@ use Rattle.penne.specs.Checks.{Check, checked, inputCheck, declarationCh
 -- the node count of a reply
 abbrev pub countOf : Parsed → ℕ
 countOf (Node root cursor count) = count
-countOf (Refused number start end cursor count) = count
+countOf (Refused number cursor count start end) = count
 
 -- and its cursor
 abbrev pub cursorOf : Parsed → ℕ
 cursorOf (Node root cursor count) = cursor .0
-cursorOf (Refused number start end cursor count) = cursor .0
+cursorOf (Refused number cursor count start end) = cursor .0
 
 -- The frame: the columns s are o but for the nodes from the given count up to the replied one, which is that of s.
 pub record Frame (o s : Nodes) : Type 0 where
@@ -68,7 +68,7 @@ pub record Promise (tokens : ℕ) (e : Check) (m : Rule Nodes ℕ) (q : Rule (Un
       Accepted tokens q c (o .count) (nodes ks ls count) (root .0) (cursor .0)
   -- a refusal while parsing, unless the slots are used up
   pub refused :
-      e ≡ none → (number : ℕ) (start end cursor : TokenId) (count : ℕ) → r ≡ Refused number start end cursor count →
+      e ≡ none → (number : ℕ) (start end cursor : TokenId) (count : ℕ) → r ≡ Refused number cursor count start end →
       number ≢ Refusal.NoSlot → Refuses q c number (start .0) (end .0) (cursor .0)
   -- after a parse the cursor is at most the token count
   pub within : e ≡ none → cursorOf r ≤ tokens

@@ -1,66 +1,15 @@
 // The five entries of crate penne for programs in C and in Rust, which pass numbers and slices only, and the table of
-// parts. Each entry is lent a column `reply` and writes its reply into the first six places: the case, then the five
-// numbers of a refusal, or the three of an acceptance and two zeros. Where the column has fewer places nothing is read or
-// written, and the result is false. Nothing is asked of the input, and nothing is allocated.
+// parts. Each entry is lent a column `reply` and writes its reply into the first six places: see crate replies. Where the
+// column has fewer places nothing is read or written, and the result is false. Nothing is asked of the input, and nothing
+// is allocated.
 ghost use mathlib.Core.Path.{_≡_};
-ghost use Prim.Native.Nat.{_≤_};
-ghost use lib.ListN.{length};
 ghost use Rattle.codes.specs.Answer.{row, nodes};
 ghost use Rattle.codes.specs.Parts.{partCode};
 ghost use Rattle.penne.specs.Promise.{Expression, Type', Constant, Struct, Word};
-ghost use Rattle.penne_c.specs.Reply.{Places, placed, written, Replied};
-use codes::Parsed;
+ghost use Rattle.replies.specs.Reply.{written, Replied};
 use codes::TokenId;
-
-// The places of a reply.
-const PLACES: usize = 6;
-
-// The cases of a reply.
-const ACCEPTED: u32 = 0;
-
-const REFUSED: u32 = 1;
-
-// The first six places of the column anew.
-fn place(reply: &mut [u32], case: u32, a: u32, b: u32, c: u32, d: u32, e: u32)
-    requires { ⌜ Places ≤ length (now reply) ⌝ }
-    ensures { λ r. ⌜ now (reply .exit) ≡ placed (now (reply .entry)) «case» a b c d e ⌝ }
-{
-    reply[0] = case;
-    reply[1] = a;
-    reply[2] = b;
-    reply[3] = c;
-    reply[4] = d;
-    reply[5] = e;
-}
-
-// A reply as numbers in the column.
-fn write(reply: &mut [u32], parsed: Parsed)
-    requires { ⌜ Places ≤ length (now reply) ⌝ }
-    ensures { λ r. ⌜ now (reply .exit) ≡ written (now (reply .entry)) parsed ⌝ }
-{
-    match parsed {
-        Parsed::Node {
-            root,
-            cursor,
-            count,
-        } => place(reply, ACCEPTED, root.0, cursor.0, count, 0, 0),
-        Parsed::Refused {
-            number,
-            start,
-            end,
-            cursor,
-            count,
-        } => place(
-            reply,
-            REFUSED,
-            number as u32,
-            start.0,
-            end.0,
-            cursor.0,
-            count,
-        ),
-    }
-}
+use replies::PLACES;
+use replies::write;
 
 // An expression from the cursor on.
 #[no_mangle]
@@ -73,7 +22,7 @@ pub extern "C" fn penne_parse_expression(
     count: u32,
     reply: &mut [u32],
 ) -> bool
-    ensures { λ r. ⌜ Replied (Expression (row (now (kinds .entry)) (now (types .entry))) cursor (nodes (now («node_kinds» .entry)) (now («node_loads» .entry)) count)) (now («node_kinds» .entry)) (now («node_loads» .entry)) (now (reply .entry)) r (now («node_kinds» .exit)) (now («node_loads» .exit)) (now (reply .exit)) ⌝ }
+    ensures { λ r. ⌜ Replied written (λ p. Expression (row (now (kinds .entry)) (now (types .entry))) cursor (nodes (now («node_kinds» .entry)) (now («node_loads» .entry)) count) p (now («node_kinds» .exit)) (now («node_loads» .exit))) ((now («node_kinds» .exit) ≡ now («node_kinds» .entry)) × (now («node_loads» .exit) ≡ now («node_loads» .entry))) (now (reply .entry)) r (now (reply .exit)) ⌝ }
 {
     if reply.len() < PLACES {
         return false;
@@ -101,7 +50,7 @@ pub extern "C" fn penne_parse_type(
     count: u32,
     reply: &mut [u32],
 ) -> bool
-    ensures { λ r. ⌜ Replied (Type' (row (now (kinds .entry)) (now (types .entry))) cursor (nodes (now («node_kinds» .entry)) (now («node_loads» .entry)) count)) (now («node_kinds» .entry)) (now («node_loads» .entry)) (now (reply .entry)) r (now («node_kinds» .exit)) (now («node_loads» .exit)) (now (reply .exit)) ⌝ }
+    ensures { λ r. ⌜ Replied written (λ p. Type' (row (now (kinds .entry)) (now (types .entry))) cursor (nodes (now («node_kinds» .entry)) (now («node_loads» .entry)) count) p (now («node_kinds» .exit)) (now («node_loads» .exit))) ((now («node_kinds» .exit) ≡ now («node_kinds» .entry)) × (now («node_loads» .exit) ≡ now («node_loads» .entry))) (now (reply .entry)) r (now (reply .exit)) ⌝ }
 {
     if reply.len() < PLACES {
         return false;
@@ -124,7 +73,7 @@ pub extern "C" fn penne_parse_constant_declaration(
     flags: u32,
     reply: &mut [u32],
 ) -> bool
-    ensures { λ r. ⌜ Replied (Constant (row (now (kinds .entry)) (now (types .entry))) cursor (nodes (now («node_kinds» .entry)) (now («node_loads» .entry)) count) start flags) (now («node_kinds» .entry)) (now («node_loads» .entry)) (now (reply .entry)) r (now («node_kinds» .exit)) (now («node_loads» .exit)) (now (reply .exit)) ⌝ }
+    ensures { λ r. ⌜ Replied written (λ p. Constant (row (now (kinds .entry)) (now (types .entry))) cursor (nodes (now («node_kinds» .entry)) (now («node_loads» .entry)) count) start flags p (now («node_kinds» .exit)) (now («node_loads» .exit))) ((now («node_kinds» .exit) ≡ now («node_kinds» .entry)) × (now («node_loads» .exit) ≡ now («node_loads» .entry))) (now (reply .entry)) r (now (reply .exit)) ⌝ }
 {
     if reply.len() < PLACES {
         return false;
@@ -156,7 +105,7 @@ pub extern "C" fn penne_parse_struct_declaration(
     flags: u32,
     reply: &mut [u32],
 ) -> bool
-    ensures { λ r. ⌜ Replied (Struct (row (now (kinds .entry)) (now (types .entry))) cursor (nodes (now («node_kinds» .entry)) (now («node_loads» .entry)) count) start flags) (now («node_kinds» .entry)) (now («node_loads» .entry)) (now (reply .entry)) r (now («node_kinds» .exit)) (now («node_loads» .exit)) (now (reply .exit)) ⌝ }
+    ensures { λ r. ⌜ Replied written (λ p. Struct (row (now (kinds .entry)) (now (types .entry))) cursor (nodes (now («node_kinds» .entry)) (now («node_loads» .entry)) count) start flags p (now («node_kinds» .exit)) (now («node_loads» .exit))) ((now («node_kinds» .exit) ≡ now («node_kinds» .entry)) × (now («node_loads» .exit) ≡ now («node_loads» .entry))) (now (reply .entry)) r (now (reply .exit)) ⌝ }
 {
     if reply.len() < PLACES {
         return false;
@@ -189,7 +138,7 @@ pub extern "C" fn penne_parse_word_declaration(
     declaring_token: u8,
     reply: &mut [u32],
 ) -> bool
-    ensures { λ r. ⌜ Replied (Word (row (now (kinds .entry)) (now (types .entry))) cursor (nodes (now («node_kinds» .entry)) (now («node_loads» .entry)) count) start flags «declaring_token») (now («node_kinds» .entry)) (now («node_loads» .entry)) (now (reply .entry)) r (now («node_kinds» .exit)) (now («node_loads» .exit)) (now (reply .exit)) ⌝ }
+    ensures { λ r. ⌜ Replied written (λ p. Word (row (now (kinds .entry)) (now (types .entry))) cursor (nodes (now («node_kinds» .entry)) (now («node_loads» .entry)) count) start flags «declaring_token» p (now («node_kinds» .exit)) (now («node_loads» .exit))) ((now («node_kinds» .exit) ≡ now («node_kinds» .entry)) × (now («node_loads» .exit) ≡ now («node_loads» .entry))) (now (reply .entry)) r (now (reply .exit)) ⌝ }
 {
     if reply.len() < PLACES {
         return false;

@@ -13,7 +13,7 @@ use Rattle.codes.specs.declared.TokenId.{TokenId}
 use Rattle.codes.specs.Answer.{Gives, nodes, answer, parsed, row}
 use Rattle.penne.specs.Checks.{or, unequal, inputCheck, checked}
 use Rattle.penne.specs.Promise.{Promise, Expression, Type', countOf}
-use Rattle.penne.proofs.Laws.{counted}
+use Rattle.penne.proofs.Promises.{counted}
 use Rattle.rules.specs.Columns.{Nodes, columns}
 use Rattle.rules.specs.Codes.Limit as Limit
 use Rattle.rules.specs.Types.{type}
@@ -56,7 +56,7 @@ module _ (bytes : List ℕ) where
       entry-tested d f = rw (le-ltb _ _ h, ← e, ← f, le-ltb _ _ b, eq-eqb _ _ d) refl
 
 pub counted-refused :
-    {r : Parsed} {n : ℕ} {s e c : TokenId} {k : ℕ} → r ≡ Refused n s e c k → k ≡ countOf r
+    {r : Parsed} {n : ℕ} {s e c : TokenId} {k : ℕ} → r ≡ Refused n c k s e → k ≡ countOf r
 counted-refused h = rw h refl
 
 module _ (bytes : List ℕ) {b : Bool} (e : b ≡ bad bytes) where

@@ -107,7 +107,7 @@ module _ {xs ys zs us : List ℕ} {at p q end : ℕ} where
   module _ {vs : List ℕ} {z : ℕ} where
     pub refused-put :
         {r : Parsed} {number : ℕ} {first last cursor : TokenId} {count : ℕ} →
-        r ≡ Refused number first last cursor count →
+        r ≡ Refused number cursor count first last →
         Puts xs at (word 110 111 number) ys p → Puts ys p (two (first .0) (last .0)) zs q →
         Puts zs q (two (cursor .0) count) us z → Puts us z (10 ∷ []) vs end → Puts xs at (reply r) vs end
     unfolding reply
@@ -255,7 +255,7 @@ reply-short (Node root cursor count) =
     let c = word-short 111 107 (root .0) in
     let d = two-short (cursor .0) count in
     omega arith
-reply-short (Refused number first last cursor count) =
+reply-short (Refused number cursor count first last) =
     let a = length-append (word 110 111 number) (two (first .0) (last .0)) in
     let b = length-append (word 110 111 number ++ two (first .0) (last .0)) (two (cursor .0) count) in
     let c = length-append (word 110 111 number ++ two (first .0) (last .0) ++ two (cursor .0) count) (10 ∷ []) in

@@ -41,7 +41,7 @@ two m n = after space m ++ after space n
 -- the first line: `ok` or `no`, and the values of the reply (MANUAL.md, The program penne-nodes)
 unfoldable pub reply : Parsed → List ℕ
 reply (Node root cursor count) = word 111 107 (root .0) ++ two (cursor .0) count ++ newline
-reply (Refused number start end cursor count) =
+reply (Refused number cursor count start end) =
     word 110 111 number ++ two (start .0) (end .0) ++ two (cursor .0) count ++ newline
 
 -- a line of three numbers for a node

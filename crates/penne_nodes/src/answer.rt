@@ -131,7 +131,7 @@ fn put_reply(out: &mut [u8], reply: Parsed) -> usize
             cursor,
             count,
         } => {
-            let after_number = text::put_word(out, b'n', b'o', number as u32);
+            let after_number = text::put_word(out, b'n', b'o', number);
             let after_end = text::put_two(out, after_number, start.0, end.0);
             let after_count = text::put_two(out, after_end, cursor.0, count);
             text::put(out, after_count, b'\n')

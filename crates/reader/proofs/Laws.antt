@@ -9,7 +9,8 @@ use Rattle.rules.specs.Codes.{pick}
 use Rattle.rules.specs.Codes.BaseToken as BaseToken
 use Rattle.rules.specs.Codes.Limit as Most
 use Rattle.rules.specs.Reading.{consume, optional}
-use Rattle.codes.specs.Answer.{Quiet, token}
+use Rattle.codes.specs.Answer.{token}
+use Rattle.codes.specs.Words.{Quiet}
 use Rattle.codes.proofs.Onto.{reads, shows}
 use Rattle.tokens.specs.declared.Consumed.{Consumed}
 use Rattle.tokens.specs.declared.Optional.{Optional}
@@ -49,7 +50,7 @@ pub ends-core :
     (k : ℕ) {ks : List ℕ} {c n : ℕ} {o : Optional} {r : Consumed} → Optionally ks BaseToken.Comma c o →
     Quiet consumed (consuming k) ks (o .cursor .0) n r → Quiet consumed (ending k) ks c n r
 unfolding ending consuming
-ends-core k g h = record { run = λ tv ks ls. shows (reads _ (optioned g tv)) (h .run tv ks ls) }
+ends-core k g h = record { run = λ tv ws. shows (reads _ (optioned g tv)) (h .run tv ws) }
 
 pub ends :
     {t t′ t″ : Tokens} (k n : ℕ) {b : Bool} {r : Consumed} → Tries t BaseToken.Comma b t′ → Consumes t′ k n r t″ →

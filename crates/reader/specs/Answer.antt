@@ -5,10 +5,11 @@ use mathlib.Core.List.{List}
 use mathlib.Core.Path.{_≡_}
 use denote.Ref.{now}
 use Rattle.rules.specs.Codes.BaseToken as BaseToken
-use Rattle.rules.specs.Columns.{Nodes}
+use Rattle.rules.specs.Words.{Words}
 use Rattle.rules.specs.Reading.{Row, Rule, consume, optional, _>>=_}
 use Rattle.codes.specs.declared.TokenId.{TokenId}
-use Rattle.codes.specs.Answer.{Quiet, token, row}
+use Rattle.codes.specs.Answer.{token, row}
+use Rattle.codes.specs.Words.{Quiet}
 use Rattle.tokens.specs.declared.Consumed.{Consumed}
 use Rattle.tokens.specs.declared.Taken.{Taken}
 use Rattle.tokens.specs.Answer.{kindIn, Taking, Optionally, consumed, consuming}
@@ -53,7 +54,7 @@ pub record Consumes (t : Tokens) (expected count : ℕ) (r : Consumed) (t′ : T
   pub answer : Quiet consumed (consuming expected) (kindsOf t) (place t) count r
 
 -- an optional comma, and then a token of this kind
-unfoldable pub ending : ℕ → Row → Rule Nodes (Unit {0})
+unfoldable pub ending : ℕ → Row → Rule Words (Unit {0})
 ending k row = do
   _ ← optional row BaseToken.Comma
   consume row k

@@ -1,10 +1,10 @@
-// A reader that holds the row and its cursor, after the Rust's Tokens of parser/tokens.rs. Each of its functions takes
-// it apart and calls a function on the row's kinds and the cursor, of crate tokens or above it. A caller that has no
-// reader uses the functions at the end, whose parameters are the row and the cursor.
+// A reader: the row and the place in it in one struct, after the Rust's Tokens of parser/tokens.rs. Each of its functions
+// takes it apart and calls a function on the row's kinds and the cursor, of crate tokens or above it. A caller that has
+// no reader uses the functions at the end, whose parameters are the row and the cursor.
 ghost use mathlib.Core.Path.{_≡_};
 ghost use Prim.Native.Nat.{_+_, _≤_};
 ghost use Rattle.rules.specs.Codes.Limit as Most;
-ghost use Rattle.codes.specs.Answer.{Quiet};
+ghost use Rattle.codes.specs.Words.{Quiet};
 ghost use Rattle.tokens.specs.Answer.{kindIn, consumed, Taking};
 ghost use Rattle.reader.specs.Answer.{kindsOf, place, ending, Looks, Takes, Tries, Expects, Consumes};
 use codes::BaseToken;

@@ -1,8 +1,9 @@
 -- The answers of the code as the rules give them.
-use Prim.Native.Nat.{ℕ}
+use Prim.Native.Nat.{ℕ, _≤_}
 use mathlib.Core.List.{List}
 use mathlib.Core.Option.{Option}
-use Rattle.codes.specs.Answer.{Form, As, token}
+use Rattle.codes.specs.Answer.{Form, token}
+use Rattle.codes.specs.Words.{As}
 use Rattle.nodes.specs.Answer.{active}
 use Rattle.references.specs.declared.Ampersands.{Ampersands}
 use Rattle.references.specs.declared.Ampersands.the-variants.{Depth, Refused as NoDepth}
@@ -10,8 +11,10 @@ use Rattle.references.specs.declared.Address.{Address}
 use Rattle.references.specs.declared.Address.the-variants.{Name, Refused as NoName}
 use Rattle.references.specs.declared.Stepped.{Stepped}
 use Rattle.references.specs.declared.Stepped.the-variants.{More, Last, Refused as NoStep}
+use Rattle.rules.specs.Codes.Limit as Limit
 use Rattle.rules.specs.Reading.{Rule, Row, Step, again, done, _>>=_}
-use Rattle.rules.specs.Columns.{Nodes, Ends, columns, pushEndOfList}
+use Rattle.rules.specs.Lists.{Ends}
+use Rattle.rules.specs.Words.{Words, words, pushEndOfList}
 use Rattle.rules.specs.Expressions.{closed, ampersands, address, deref, stepEnd, elementEnd, member}
 
 -- a number of ampersands
@@ -31,31 +34,40 @@ abbrev pub stepped : Form (Step (Option Ends) (Option Ends)) Stepped
 stepped = record { read = stepOf; refused = NoStep }
 
 -- The same of a reader that reads no token: whatever the row is.
-pub record Unread {A R : Type 0} (F : Form A R) (m : Row → Rule Nodes A) (c : ℕ) (s : Nodes) (r : R) (ks ls : List ℕ) :
+pub record Unread {A R : Type 0} (F : Form A R) (m : Row → Rule Words A) (c : ℕ) (s : Words) (r : R) (ks : List ℕ) :
     Type 0 where
-  pub run : (row : Row) → As F (m row) c s r ks ls
+  pub run : (row : Row) → As F (m row) c s r ks
 
 -- the rules of any row
-unfoldable pub closing : ℕ → ℕ → ℕ → Row → Rule Nodes ℕ
-closing token kind inside row = closed columns row token kind inside
+unfoldable pub closing : ℕ → ℕ → ℕ → Row → Rule Words ℕ
+closing token kind inside row = closed words row token kind inside
 
-unfoldable pub counting : ℕ → Row → Rule Nodes ℕ
-counting start row = ampersands columns row start
+unfoldable pub counting : ℕ → Row → Rule Words ℕ
+counting start row = ampersands words row start
 
-unfoldable pub addressing : ℕ → Row → Rule Nodes (ℕ × ℕ)
-addressing start row = address columns row start
+unfoldable pub addressing : ℕ → Row → Rule Words (ℕ × ℕ)
+addressing start row = address words row start
 
-unfoldable pub stepping : Option Ends → ℕ → Row → Rule Nodes (Step (Option Ends) (Option Ends))
-stepping l content row = stepEnd columns row l content
+unfoldable pub stepping : Option Ends → ℕ → Row → Rule Words (Step (Option Ends) (Option Ends))
+stepping l content row = stepEnd words row l content
 
-unfoldable pub elementing : Option Ends → ℕ → Row → Rule Nodes (Step (Option Ends) (Option Ends))
-elementing l index row = elementEnd columns row l index
+unfoldable pub elementing : Option Ends → ℕ → Row → Rule Words (Step (Option Ends) (Option Ends))
+elementing l index row = elementEnd words row l index
 
-unfoldable pub membering : Option Ends → Row → Rule Nodes (Step (Option Ends) (Option Ends))
-membering l row = member columns row l
+unfoldable pub membering : Option Ends → Row → Rule Words (Step (Option Ends) (Option Ends))
+membering l row = member words row l
 
 -- the end of a reference's steps, and its nodes
-unfoldable pub derefEnd : Option Ends → ℕ → ℕ → ℕ → Rule Nodes ℕ
+unfoldable pub derefEnd : Option Ends → ℕ → ℕ → ℕ → Rule Words ℕ
 derefEnd l start depth name = do
   steps ← pushEndOfList l
-  deref columns start depth name steps
+  deref words start depth name steps
+
+-- a depth, and a depth and a name, fit words
+unfoldable pub Shallow : Ampersands → Type 0
+Shallow (Depth depth cursor count) = depth ≤ Limit.Load
+Shallow (NoDepth r) = Unit {0}
+
+unfoldable pub Near : Address → Type 0
+Near (Name depth name cursor count) = (depth ≤ Limit.Load) × (name .0 ≤ Limit.Load)
+Near (NoName r) = Unit {0}

@@ -5,11 +5,12 @@ ghost use Prim.Native.Nat.{_+_, _≤_};
 ghost use lib.ListN.{length};
 ghost use Rattle.rules.specs.Codes.Limit as Most;
 ghost use Rattle.rules.specs.Codes.Refusal as Number;
-ghost use Rattle.rules.specs.Columns.{columns};
+ghost use Rattle.rules.specs.Words.{words};
 ghost use Rattle.rules.specs.Expressions.{deref, nameAlone};
-ghost use Rattle.codes.specs.Answer.{Gives, Untyped, Quiet, parsed, nodes, refusal};
+ghost use Rattle.codes.specs.Answer.{parsed, refusal};
+ghost use Rattle.codes.specs.Words.{Gives, Untyped, Quiet, nodes};
 ghost use Rattle.nodes.specs.Answer.{Slots, ends, past};
-ghost use Rattle.references.specs.Answer.{depths, addressed, stepped, Unread, closing, counting, addressing, stepping, elementing, membering, derefEnd};
+ghost use Rattle.references.specs.Answer.{Shallow, Near, depths, addressed, stepped, Unread, closing, counting, addressing, stepping, elementing, membering, derefEnd};
 use codes::BaseToken;
 use codes::Limit;
 use codes::NodeId;
@@ -73,22 +74,21 @@ pub enum Stepped {
 // The closing token, and the node of what it closes: a parenthesized expression, a length, a size or an element step.
 pub fn push_closed(
     kinds: &[u8],
-    node_kinds: &mut [u8],
-    node_loads: &mut [u32],
+    node_words: &mut [u32],
     cursor: TokenId,
     count: u32,
     expected: u8,
     kind: u8,
     inside: NodeId,
 ) -> Parsed
-    requires { ⌜ (cursor .0 ≤ Most.Tokens + 1) × Slots (now «node_kinds») (now «node_loads») count ⌝ }
-    ensures { λ r. ⌜ Untyped parsed (closing expected kind (inside .0)) (now (kinds .entry)) (cursor .0) (nodes (now («node_kinds» .entry)) (now («node_loads» .entry)) count) r (now («node_kinds» .exit)) (now («node_loads» .exit)) ⌝ }
+    requires { ⌜ (cursor .0 ≤ Most.Tokens + 1) × Slots (now «node_words») count ⌝ }
+    ensures { λ r. ⌜ Untyped parsed (closing expected kind (inside .0)) (now (kinds .entry)) (cursor .0) (nodes (now («node_words» .entry)) count) r (now («node_words» .exit)) ⌝ }
 {
     match consume(kinds, cursor, count, expected) {
         Consumed::Next {
             cursor: after,
             count: used,
-        } => push(node_kinds, node_loads, after, used, kind, 0),
+        } => push(node_words, after, used, kind, 0),
         Consumed::Wrong { refusal } => refusal,
     }
 }
@@ -109,7 +109,7 @@ pub fn exceeded(cursor: TokenId, count: u32, start: TokenId) -> Parsed
 // Further ampersands. The depth is 1 where there are none.
 fn parse_ampersands(kinds: &[u8], cursor: TokenId, count: u32, start: TokenId) -> Ampersands
     requires { ⌜ (length (now kinds) ≤ Most.Tokens) × (cursor .0 ≤ length (now kinds)) ⌝ }
-    ensures { λ r. ⌜ Quiet depths (counting (start .0)) (now (kinds .entry)) (cursor .0) count r ⌝ }
+    ensures { λ r. ⌜ Quiet depths (counting (start .0)) (now (kinds .entry)) (cursor .0) count r × Shallow r ⌝ }
 {
     let mut at = cursor.0;
     let mut depth: u32 = 1;
@@ -136,7 +136,7 @@ fn parse_ampersands(kinds: &[u8], cursor: TokenId, count: u32, start: TokenId) -
 // Further ampersands and the name after them.
 pub fn parse_address(kinds: &[u8], cursor: TokenId, count: u32, start: TokenId) -> Address
     requires { ⌜ (length (now kinds) ≤ Most.Tokens) × (cursor .0 ≤ length (now kinds)) ⌝ }
-    ensures { λ r. ⌜ Quiet addressed (addressing (start .0)) (now (kinds .entry)) (cursor .0) count r ⌝ }
+    ensures { λ r. ⌜ Quiet addressed (addressing (start .0)) (now (kinds .entry)) (cursor .0) count r × Near r ⌝ }
 {
     match parse_ampersands(kinds, cursor, count, start) {
         Ampersands::Depth {
@@ -161,8 +161,7 @@ pub fn parse_address(kinds: &[u8], cursor: TokenId, count: u32, start: TokenId) 
 
 // The nodes of a reference, after the end of its steps.
 fn push_reference(
-    node_kinds: &mut [u8],
-    node_loads: &mut [u32],
+    node_words: &mut [u32],
     cursor: TokenId,
     count: u32,
     first: NodeId,
@@ -170,12 +169,11 @@ fn push_reference(
     depth: u32,
     name: TokenId,
 ) -> Parsed
-    requires { ⌜ Slots (now «node_kinds») (now «node_loads») count ⌝ }
-    ensures { λ r. ⌜ Gives (deref columns (start .0) depth (name .0) (first .0)) (cursor .0) (nodes (now («node_kinds» .entry)) (now («node_loads» .entry)) count) r (now («node_kinds» .exit)) (now («node_loads» .exit)) ⌝ }
+    requires { ⌜ Slots (now «node_words») count × (first .0 ≤ Most.Load) × (start .0 ≤ Most.Load) × (depth ≤ Most.Load) × (name .0 ≤ Most.Load) ⌝ }
+    ensures { λ r. ⌜ Gives (deref words (start .0) depth (name .0) (first .0)) (cursor .0) (nodes (now («node_words» .entry)) count) r (now («node_words» .exit)) ⌝ }
 {
     let steps = push_two(
-        node_kinds,
-        node_loads,
+        node_words,
         cursor,
         count,
         ParseNode::List,
@@ -192,8 +190,7 @@ fn push_reference(
         return steps;
     };
     push_two(
-        node_kinds,
-        node_loads,
+        node_words,
         after,
         used,
         ParseNode::DerefAddressDepth,
@@ -205,8 +202,7 @@ fn push_reference(
 
 // The end of a reference's steps, and its nodes.
 pub fn push_deref(
-    node_kinds: &mut [u8],
-    node_loads: &mut [u32],
+    node_words: &mut [u32],
     cursor: TokenId,
     count: u32,
     list: ActiveList,
@@ -214,10 +210,10 @@ pub fn push_deref(
     depth: u32,
     name: TokenId,
 ) -> Parsed
-    requires { ⌜ Slots (now «node_kinds») (now «node_loads») count × (past list ≤ count) ⌝ }
-    ensures { λ r. ⌜ Gives (derefEnd (ends list) (start .0) depth (name .0)) (cursor .0) (nodes (now («node_kinds» .entry)) (now («node_loads» .entry)) count) r (now («node_kinds» .exit)) (now («node_loads» .exit)) ⌝ }
+    requires { ⌜ Slots (now «node_words») count × (past list ≤ count) × (start .0 ≤ Most.Load) × (depth ≤ Most.Load) × (name .0 ≤ Most.Load) ⌝ }
+    ensures { λ r. ⌜ Gives (derefEnd (ends list) (start .0) depth (name .0)) (cursor .0) (nodes (now («node_words» .entry)) count) r (now («node_words» .exit)) ⌝ }
 {
-    let steps = push_end_of_list(node_kinds, node_loads, cursor, count, list);
+    let steps = push_end_of_list(node_words, cursor, count, list);
     let Parsed::Node {
         root: first,
         cursor: after,
@@ -226,46 +222,30 @@ pub fn push_deref(
     else {
         return steps;
     };
-    push_reference(
-        node_kinds,
-        node_loads,
-        after,
-        used,
-        first,
-        start,
-        depth,
-        name,
-    )
+    push_reference(node_words, after, used, first, start, depth, name)
 }
 
 // A name with no step.
-pub fn push_name(
-    node_kinds: &mut [u8],
-    node_loads: &mut [u32],
-    cursor: TokenId,
-    count: u32,
-    name: TokenId,
-) -> Parsed
-    requires { ⌜ Slots (now «node_kinds») (now «node_loads») count ⌝ }
-    ensures { λ r. ⌜ Gives (nameAlone columns (name .0)) (cursor .0) (nodes (now («node_kinds» .entry)) (now («node_loads» .entry)) count) r (now («node_kinds» .exit)) (now («node_loads» .exit)) ⌝ }
+pub fn push_name(node_words: &mut [u32], cursor: TokenId, count: u32, name: TokenId) -> Parsed
+    requires { ⌜ Slots (now «node_words») count × (name .0 ≤ Most.Load) ⌝ }
+    ensures { λ r. ⌜ Gives (nameAlone words (name .0)) (cursor .0) (nodes (now («node_words» .entry)) count) r (now («node_words» .exit)) ⌝ }
 {
     let list = start_list();
-    push_deref(node_kinds, node_loads, cursor, count, list, name, 0, name)
+    push_deref(node_words, cursor, count, list, name, 0, name)
 }
 
 // The step that was appended last becomes the list's item.
 pub fn push_step(
-    node_kinds: &mut [u8],
-    node_loads: &mut [u32],
+    node_words: &mut [u32],
     cursor: TokenId,
     count: u32,
     list: ActiveList,
     content: NodeId,
 ) -> Stepped
-    requires { ⌜ Slots (now «node_kinds») (now «node_loads») count × (past list ≤ count) ⌝ }
-    ensures { λ r. ⌜ Unread stepped (stepping (ends list) (content .0)) (cursor .0) (nodes (now («node_kinds» .entry)) (now («node_loads» .entry)) count) r (now («node_kinds» .exit)) (now («node_loads» .exit)) ⌝ }
+    requires { ⌜ Slots (now «node_words») count × (past list ≤ count) ⌝ }
+    ensures { λ r. ⌜ Unread stepped (stepping (ends list) (content .0)) (cursor .0) (nodes (now («node_words» .entry)) count) r (now («node_words» .exit)) ⌝ }
 {
-    match push_list_item(node_kinds, node_loads, cursor, count, list) {
+    match push_list_item(node_words, cursor, count, list) {
         Listed::List {
             list: grown,
             cursor: after,
@@ -282,20 +262,18 @@ pub fn push_step(
 // After the expression of a step in brackets.
 pub fn finish_element(
     kinds: &[u8],
-    node_kinds: &mut [u8],
-    node_loads: &mut [u32],
+    node_words: &mut [u32],
     cursor: TokenId,
     count: u32,
     list: ActiveList,
     index: NodeId,
 ) -> Stepped
-    requires { ⌜ (cursor .0 ≤ Most.Tokens + 1) × Slots (now «node_kinds») (now «node_loads») count × (past list ≤ count) ⌝ }
-    ensures { λ r. ⌜ Untyped stepped (elementing (ends list) (index .0)) (now (kinds .entry)) (cursor .0) (nodes (now («node_kinds» .entry)) (now («node_loads» .entry)) count) r (now («node_kinds» .exit)) (now («node_loads» .exit)) ⌝ }
+    requires { ⌜ (cursor .0 ≤ Most.Tokens + 1) × Slots (now «node_words») count × (past list ≤ count) ⌝ }
+    ensures { λ r. ⌜ Untyped stepped (elementing (ends list) (index .0)) (now (kinds .entry)) (cursor .0) (nodes (now («node_words» .entry)) count) r (now («node_words» .exit)) ⌝ }
 {
     let step = push_closed(
         kinds,
-        node_kinds,
-        node_loads,
+        node_words,
         cursor,
         count,
         BaseToken::BracketRight,
@@ -310,20 +288,19 @@ pub fn finish_element(
     else {
         return Stepped::Refused { refusal: step };
     };
-    push_step(node_kinds, node_loads, after, used, list, content)
+    push_step(node_words, after, used, list, content)
 }
 
 // A step `.name`, whose dot is taken.
 pub fn parse_member(
     kinds: &[u8],
-    node_kinds: &mut [u8],
-    node_loads: &mut [u32],
+    node_words: &mut [u32],
     cursor: TokenId,
     count: u32,
     list: ActiveList,
 ) -> Stepped
-    requires { ⌜ (cursor .0 ≤ Most.Tokens + 1) × Slots (now «node_kinds») (now «node_loads») count × (past list ≤ count) ⌝ }
-    ensures { λ r. ⌜ Untyped stepped (membering (ends list)) (now (kinds .entry)) (cursor .0) (nodes (now («node_kinds» .entry)) (now («node_loads» .entry)) count) r (now («node_kinds» .exit)) (now («node_loads» .exit)) ⌝ }
+    requires { ⌜ (cursor .0 ≤ Most.Tokens + 1) × Slots (now «node_words») count × (past list ≤ count) ⌝ }
+    ensures { λ r. ⌜ Untyped stepped (membering (ends list)) (now (kinds .entry)) (cursor .0) (nodes (now («node_words» .entry)) count) r (now («node_words» .exit)) ⌝ }
 {
     match consume(kinds, cursor, count, BaseToken::Identifier) {
         Consumed::Next {
@@ -331,7 +308,7 @@ pub fn parse_member(
             count: same,
         } => {
             let kind = ParseNode::DerefStepMember;
-            let step = push(node_kinds, node_loads, named, same, kind, cursor.0);
+            let step = push(node_words, named, same, kind, cursor.0);
             let Parsed::Node {
                 root: content,
                 cursor: after,
@@ -340,7 +317,7 @@ pub fn parse_member(
             else {
                 return Stepped::Refused { refusal: step };
             };
-            push_step(node_kinds, node_loads, after, used, list, content)
+            push_step(node_words, after, used, list, content)
         }
         Consumed::Wrong { refusal } => Stepped::Refused { refusal },
     }

@@ -8,7 +8,7 @@ use Rattle.rules.specs.Trees.{trees}
 use Rattle.rules.specs.Columns.{Nodes, columns}
 use Rattle.rules.proofs.Ways.{Numbered, root, strip}
 use Rattle.rules.proofs.Laid.{Claim, tree, _⋆_, turn}
-use Rattle.rules.proofs.Model.{Rows, Model, one-row, equal}
+use Rattle.rules.proofs.Model.{Rows, Model, one-row, equal, parts-of}
 use Rattle.rules.proofs.Grow.{Beside, At, node-beside, leaf-beside, link-beside}
 use Rattle.rules.proofs.Chain.{ends, contents, opened, item-beside, close-beside}
 
@@ -33,9 +33,9 @@ beside o = record {
   less = λ _ _ _ _ _ _ h. h;
   aside = λ _ t F _ s s' h. record { on = h .on; placed = tt };
   shared = λ _ _. tt;
-  node = λ _ ts F k l l' e d. rw (← equal (Beside o) k l l' (λ x. x) d) (node-beside {ts = ts} k l e);
-  leaf = λ _ ts F k l l' e d. rw (← equal (Beside o) k l l' (λ x. x) d) (leaf-beside {ts = ts} k l e);
-  link = λ _ ts F k u e. link-beside {ts = ts} k u e;
+  node = λ _ ts F k l l' e d. rw (← equal (Beside o) k l l' (λ x. x) d) (node-beside {ts = ts} k l (parts-of k e));
+  leaf = λ _ ts F k l l' e d. rw (← equal (Beside o) k l l' (λ x. x) d) (leaf-beside {ts = ts} k l (parts-of k e));
+  link = λ _ ts F k u e. link-beside {ts = ts} k u (parts-of k e);
   begin = λ _ F _ s s' h.
       ([], refl, refl, record { on = turn (λ x. (tt, x)) (λ m. omega arith) (h .on); placed = tt });
   item = λ _ F l t. item-beside l t;

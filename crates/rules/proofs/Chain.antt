@@ -8,7 +8,9 @@ use borrow.Author.Tests.{le-leb}
 use Rattle.rules.specs.Reading.{_>>=_, pure}
 use Rattle.rules.specs.Trees.{Tree, node, fnil, items}
 use Rattle.rules.specs.Codes.ParseNode as ParseNode
-use Rattle.rules.specs.Columns.{Nodes, Ends, patch, extended, ended, pushListItem, pushEndOfList}
+use Rattle.rules.specs.Lists.{Ends, extended, ended}
+use Rattle.rules.specs.Lists as Lists
+use Rattle.rules.specs.Columns.{Nodes, append, patch, pushListItem, pushEndOfList}
 use Rattle.rules.specs.Ways.{parts}
 use Rattle.rules.proofs.Ways.{Numbered, numbered, rnil, rcons, root, strip, Stands, times}
 use Rattle.rules.proofs.Laid.{Claim, nothing, cell, tree, _⋆_, holds, counts, On, turn, appended, patched, kept}
@@ -79,7 +81,7 @@ module _ {o : Nodes} {F : Claim} where
       (ts : List Numbered) (t : Numbered) →
       Sim (Beside o) (λ _ s _. On o (unpatched (root t + 1) ⋆ (tree t ⋆ (opened ts ⋆ F))) s)
       (Via ends contents (λ us. At o [] (opened us ⋆ F)))
-      (extended (ends ts) (root t + 1)) (pure (strip t ∷ contents ts))
+      (extended append patch (ends ts) (root t + 1)) (pure (strip t ∷ contents ts))
   unfolding extended patch _>>=_
   extended-beside [] t = record {
     run = λ c c' s s' e k h.
@@ -106,7 +108,7 @@ module _ {o : Nodes} {F : Claim} where
       (ts : List Numbered) (t : Numbered) →
       Sim (Beside o) (At o (t ∷ []) (opened ts ⋆ F)) (Via ends contents (λ us. At o [] (opened us ⋆ F)))
       (pushListItem (ends ts)) (pure (strip t ∷ contents ts))
-  unfolding _>>=_ pushListItem
+  unfolding _>>=_ Lists.pushListItem
   item-beside ts t =
       let items = unpatched (root t + 1) ⋆ (tree t ⋆ (opened ts ⋆ F)) in
       _then_ {Q = λ p _ _ s _. (p ≡ root t + 1) × On o items s} {f' = λ _. pure (strip t ∷ contents ts)}
@@ -119,7 +121,7 @@ module _ {o : Nodes} {F : Claim} where
       (ts : List Numbered) (n : ℕ) →
       Sim (Beside o) (λ _ s _. On o (cell n ParseNode.NoMoreItems 0 ⋆ (opened ts ⋆ F)) s)
       (Via root strip (λ u. At o [] (tree u ⋆ F)))
-      (ended (ends ts) n) (pure (items (contents ts) (node ParseNode.NoMoreItems 0 fnil)))
+      (ended append patch (ends ts) n) (pure (items (contents ts) (node ParseNode.NoMoreItems 0 fnil)))
   unfolding ended patch _>>=_ parts
   ended-beside [] n = record {
     run = λ c c' s s' e k h.
@@ -164,7 +166,7 @@ module _ {o : Nodes} {F : Claim} where
       (ts : List Numbered) →
       Sim (Beside o) (At o [] (opened ts ⋆ F)) (Via root strip (λ u. At o [] (tree u ⋆ F)))
       (pushEndOfList (ends ts)) (pure (items (contents ts) (node ParseNode.NoMoreItems 0 fnil)))
-  unfolding _>>=_ pushEndOfList
+  unfolding _>>=_ Lists.pushEndOfList
   close-beside ts =
       _then_ {Q = λ p _ _ s _. On o (cell p ParseNode.NoMoreItems 0 ⋆ (opened ts ⋆ F)) s}
       {f' = λ _. pure (items (contents ts) (node ParseNode.NoMoreItems 0 fnil))}

@@ -47,7 +47,7 @@ module _ {B B' : Builder} {rel : Relation (B .S) (B' .S)} (M : Model B B' rel) w
         (gives λ c s s' p. (refl, tt, p)) otherwise
         refuse-sim (shared number e) at at)
 
-    typed-sim :
+    pub typed-sim :
         (number unused : ℕ) → eqb number Refusal.NoSlot ≡ false →
         Gains M 10 (typed B row number unused) (typed B' row' number unused)
     unfolding typed
@@ -97,7 +97,7 @@ module _ {B B' : Builder} {rel : Relation (B .S) (B' .S)} (M : Model B B' rel) w
         consume-sim M R _ same λ _ _.
         spare M 13 (step-end M R us t))
 
-    members-sim :
+    pub members-sim :
         {x : ℕ} {F : Besides} (unused : ℕ) →
         Sim rel (At x [] F) (First M (plus 4 x) F) (members B row unused) (members B' row' unused)
     unfolding members memberList

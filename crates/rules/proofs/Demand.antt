@@ -3,7 +3,7 @@ use Prim.Native.Nat.{ℕ, _≤_, _<_}
 use native.Mathlib.Omega.{arith}
 use native.Mathlib.Decide.{decLe}
 use mathlib.Core.Logic.{inl, inr, _≢_}
-use mathlib.Core.Path.{_≡_, refl, sym}
+use mathlib.Core.Path.{_≡_, refl, sym, _∙_}
 use mathlib.Core.List.{[], _∷_}
 use lib.ListN.{length}
 use borrow.Author.Tests.{eqb-false}
@@ -11,6 +11,7 @@ use Rattle.rules.specs.Codes.Refusal as Refusal
 use Rattle.rules.specs.Reading.{Rule, Row, Result, ok, no, kindOf}
 use Rattle.rules.specs.Trees.{Tree, trees}
 use Rattle.rules.specs.Columns.{Nodes, columns}
+use Rattle.rules.specs.Words.{Words, words as inWords, Alongside, Agrees}
 use Rattle.rules.specs.Demand.{Sized, Kept, Accepted, Closed, Demand, Unique}
 use Rattle.rules.specs.Types.{type}
 use Rattle.rules.specs.Expressions.{expression}
@@ -25,9 +26,10 @@ use Rattle.rules.proofs.Beside.{beside, row-once}
 use Rattle.rules.proofs.Types.{type-rule}
 use Rattle.rules.proofs.Expressions.{expression-rule}
 use Rattle.rules.proofs.Declarations.{constant-rule, struct-rule, word-rule}
-use Rattle.rules.proofs.Forward.{Stop, Goes, Left}
+use Rattle.rules.proofs.Forward.{Stop, Left, below}
 use Rattle.rules.proofs.Moves.{type-moves, expression-moves, constant-moves, struct-moves, word-moves}
-use Rattle.rules.proofs.Starts.{Refuses}
+use Rattle.rules.proofs.Words.{Reader, unended, agrees, packing, once}
+use Rattle.rules.proofs.Words as Words
 use Rattle.rules.proofs.Starts as Starts
 
 -- the frame of columns in which nothing was appended
@@ -86,15 +88,7 @@ module _ {o : Nodes} {m : Rule Nodes ℕ} {m' : Rule (Unit {0}) Tree}
       go (ok a) (no x y v) d = absurd d
       go (no x y v) q d = elim d [ inl a ↦ a .1 | inr a ↦ a .states ]
 
--- a row's tokens stand below its length, and below its last place where EndOfSource stands there
-pub below : (row : Row) → Stop row (length (row .kinds))
-below row = record {
-  within = λ i h. elim (decLe (length (row .kinds)) i) [
-    | Dec.yes d ↦ absurd (h (getD-past (row .kinds) i 0 d))
-    | Dec.no d ↦ omega arith
-  ];
-}
-
+-- a row's tokens stand below its last place where EndOfSource stands there
 below-last : {row : Row} (z : Closed row) → Stop row (z .last)
 below-last {row} z = record {
   within = λ i h.
@@ -105,29 +99,36 @@ below-last {row} z = record {
       ];
 }
 
-module _ {row : Row} {m : Rule Nodes ℕ} {m' : Rule (Unit {0}) Tree}
-    (follows : (o : Nodes) → Follows (beside o) m m')
-    (moves : (n : ℕ) → Stop row n → n ≤ length (row .kinds) → (c : ℕ) → Goes n m c (λ _ c'. c < c'))
-    (starts : (c : ℕ) → kindOf row c ≡ 0 → Refuses m c) where
-  -- what is left of an outcome that is known
+-- some words as long as the columns
+abbrev beneath : Nodes → Words
+beneath o = record { words = o .kinds; count = o .count }
+
+lie-beneath : (o : Nodes) → Sized o → Alongside o (beneath o)
+lie-beneath o z = record { count = refl; size = refl; even = z .even }
+
+module _ {row : Row} {m : Rule Nodes ℕ} {m' : Rule (Unit {0}) Tree} {q : Rule Words ℕ}
+    (follows : (o : Nodes) → Follows (beside o) m m') (reader : Reader row q) (agrees : Agrees m q) where
+  -- what is left of an outcome that is known, as with words
   left :
       (n : ℕ) → Stop row n → n ≤ length (row .kinds) →
       (o : Nodes) (c : ℕ) → Sized o → c ≤ n → (r : Result ℕ) → m c o .result ≡ r →
-      Left n (λ _ c'. c < c') o r (m c o .cursor) (m c o .state)
-  left n stop size o c z b r e = rw (← e) (moves n stop size c .run o (z .room) b)
+      Left n (λ _ c'. c < c') (beneath o) r (m c o .cursor) (q c (beneath o) .state)
+  left n stop size o c z b r e =
+      let (x, y, _) = agrees o (beneath o) c z (lie-beneath o z) in
+      rw (← y) (Words.left reader n stop size (beneath o) c (z .room) b r (x ∙ e))
+
+  numbered : (o : Nodes) (c n x y : ℕ) → Sized o → m c o .result ≡ no n x y → n ≢ Refusal.OutOfRounds
+  numbered o c n x y z e =
+      unended reader (beneath o) c n x y (z .room) (agrees o (beneath o) c z (lie-beneath o z) .0 ∙ e)
 
   ahead :
       (o : Nodes) (c root : ℕ) → Sized o → m c o .result ≡ ok root →
       (c < m c o .cursor) × (m c o .cursor ≤ length (row .kinds))
   ahead o c root z e = elim (decLe c (length (row .kinds))) [
     | Dec.yes d ↦ let l = left (length (row .kinds)) (below row) (omega arith) o c z d _ e in (l .1, l .0)
-    | Dec.no d ↦ absurd (rw e at (starts c (getD-past (row .kinds) c 0 (omega arith)) .run o))
-  ]
-
-  numbered : (o : Nodes) (c n x y : ℕ) → Sized o → m c o .result ≡ no n x y → n ≢ Refusal.OutOfRounds
-  numbered o c n x y z e = elim (decLe c (length (row .kinds))) [
-    | Dec.yes d ↦ eqb-false n 0 (left (length (row .kinds)) (below row) (omega arith) o c z d _ e .1)
-    | Dec.no d ↦ eqb-false n 0 (rw e at (starts c (getD-past (row .kinds) c 0 (omega arith)) .run o))
+    | Dec.no d ↦
+        let f = agrees o (beneath o) c z (lie-beneath o z) .0 ∙ e in
+        absurd (rw f at (reader .starts c (getD-past (row .kinds) c 0 (omega arith)) .run (beneath o)))
   ]
 
   pub demand : Demand row m m'
@@ -150,41 +151,78 @@ abbrev at : {o : Nodes} → ℕ → Token (Beside o)
 at n = record { left = n; right = n; both = refl }
 
 module _ (row : Row) (unused : ℕ) where
+  type-reader : Reader row (type inWords row unused)
+  type-reader = record {
+    moves = λ _ stop size. type-moves stop size unused;
+    starts = λ _ e. Starts.types row e unused;
+  }
+
+  expression-reader : Reader row (expression inWords row unused)
+  expression-reader = record {
+    moves = λ _ stop size. expression-moves stop size unused;
+    starts = λ _ e. Starts.expressions row e unused;
+  }
+
+  pub type-agrees : Agrees (type columns row unused) (type inWords row unused)
+  type-agrees = agrees type-reader (λ b v. type-rule (packing b v) (once b v row) unused)
+
+  pub expression-agrees : Agrees (expression columns row unused) (expression inWords row unused)
+  expression-agrees = agrees expression-reader (λ b v. expression-rule (packing b v) (once b v row) unused)
+
   pub types : Demand row (type columns row unused) (type trees row unused)
-  types = demand
-      (λ o. type-rule (beside o) (row-once o row) unused)
-      (λ _ stop size. type-moves stop size unused)
-      (λ _ e. Starts.types row e unused)
+  types = demand (λ o. type-rule (beside o) (row-once o row) unused) type-reader type-agrees
 
   pub expressions : Demand row (expression columns row unused) (expression trees row unused)
-  expressions = demand
-      (λ o. expression-rule (beside o) (row-once o row) unused)
-      (λ _ stop size. expression-moves stop size unused)
-      (λ _ e. Starts.expressions row e unused)
+  expressions = demand (λ o. expression-rule (beside o) (row-once o row) unused) expression-reader expression-agrees
 
-  pub constants :
-      (start flags : ℕ) →
-      Demand row (constant columns row unused start flags) (constant trees row unused start flags)
-  constants start flags = demand
-      (λ o. constant-rule (beside o) (row-once o row) unused (at start) flags)
-      (λ _ stop size. constant-moves stop size unused start flags)
-      (λ _ e. Starts.constants row e unused start flags)
+  module _ (start flags : ℕ) where
+    constant-reader : Reader row (constant inWords row unused start flags)
+    constant-reader = record {
+      moves = λ _ stop size. constant-moves stop size unused start flags;
+      starts = λ _ e. Starts.constants row e unused start flags;
+    }
 
-  pub structs :
-      (start flags : ℕ) →
-      Demand row (struct columns row unused start flags) (struct trees row unused start flags)
-  structs start flags = demand
-      (λ o. struct-rule (beside o) (row-once o row) unused (at start) flags)
-      (λ _ stop size. struct-moves stop size unused start flags)
-      (λ _ e. Starts.structs row e unused start flags)
+    struct-reader : Reader row (struct inWords row unused start flags)
+    struct-reader = record {
+      moves = λ _ stop size. struct-moves stop size unused start flags;
+      starts = λ _ e. Starts.structs row e unused start flags;
+    }
 
-  pub words :
-      (start flags kind : ℕ) →
-      Demand row (word columns row unused start flags kind) (word trees row unused start flags kind)
-  words start flags kind = demand
-      (λ o. word-rule (beside o) (row-once o row) unused (at start) flags kind)
-      (λ _ stop size. word-moves stop size unused start flags kind)
-      (λ _ e. Starts.words row e unused start flags kind)
+    word-reader : (kind : ℕ) → Reader row (word inWords row unused start flags kind)
+    word-reader kind = record {
+      moves = λ _ stop size. word-moves stop size unused start flags kind;
+      starts = λ _ e. Starts.words row e unused start flags kind;
+    }
+
+    pub constant-agrees : Agrees (constant columns row unused start flags) (constant inWords row unused start flags)
+    constant-agrees =
+        agrees constant-reader (λ b v. constant-rule (packing b v) (once b v row) unused (Words.at start) flags)
+
+    pub struct-agrees : Agrees (struct columns row unused start flags) (struct inWords row unused start flags)
+    struct-agrees =
+        agrees struct-reader (λ b v. struct-rule (packing b v) (once b v row) unused (Words.at start) flags)
+
+    pub word-agrees :
+        (kind : ℕ) → Agrees (word columns row unused start flags kind) (word inWords row unused start flags kind)
+    word-agrees kind =
+        agrees (word-reader kind) (λ b v. word-rule (packing b v) (once b v row) unused (Words.at start) flags kind)
+
+    pub constants : Demand row (constant columns row unused start flags) (constant trees row unused start flags)
+    constants = demand
+        (λ o. constant-rule (beside o) (row-once o row) unused (at start) flags)
+        constant-reader constant-agrees
+
+    pub structs : Demand row (struct columns row unused start flags) (struct trees row unused start flags)
+    structs = demand
+        (λ o. struct-rule (beside o) (row-once o row) unused (at start) flags)
+        struct-reader struct-agrees
+
+    pub words :
+        (kind : ℕ) →
+        Demand row (word columns row unused start flags kind) (word trees row unused start flags kind)
+    words kind = demand
+        (λ o. word-rule (beside o) (row-once o row) unused (at start) flags kind)
+        (word-reader kind) (word-agrees kind)
 
 pub unique : Unique
 unique s n t u h g = reads-one t s n u h g

@@ -75,7 +75,7 @@ module _ {B B' : Builder} {rel : Relation (B .S) (B' .S)} (M : Model B B' rel)
         expr x F for each λ t.
         fewer M 4 (closed-sim M R _ _ t refl refl)
 
-    primary-sim : Follows M (primary B row e) (primary B' row' e')
+    pub primary-sim : Follows M (primary B row e) (primary B' row' e')
     unfolding primary
     primary-sim x F =
         here-sim for each λ at.
@@ -110,7 +110,7 @@ module _ {B B' : Builder} {rel : Relation (B .S) (B' .S)} (M : Model B B' rel)
         reference-sim M R expr x F for each λ t.
         fewer M 4 (closed-sim M R _ _ t refl refl))
 
-    unary-sim : Follows M (unary B row e y) (unary B' row' e' y')
+    pub unary-sim : Follows M (unary B row e y) (unary B' row' e' y')
     unfolding unary
     unary-sim x F =
         peek-sim R same λ k _.
@@ -120,7 +120,7 @@ module _ {B B' : Builder} {rel : Relation (B .S) (B' .S)} (M : Model B B' rel)
         prefixed-sim _ x F or
         other (primary-sim x F))
 
-    singular-sim : Follows M (singular B row e y) (singular B' row' e' y')
+    pub singular-sim : Follows M (singular B row e y) (singular B' row' e' y')
     unfolding singular
     singular-sim x F =
         here-sim for each λ at.
@@ -140,7 +140,7 @@ module _ {B B' : Builder} {rel : Relation (B .S) (B' .S)} (M : Model B B' rel)
         singular-sim (due M p x) (waiting M p F) for each λ r.
         factor-end M R p r
 
-    product-sim : Follows M (product B row e y) (product B' row' e' y')
+    pub product-sim : Follows M (product B row e y) (product B' row' e' y')
     unfolding product
     product-sim x F = eased (λ c s s' p. (opening, refl, refl, p)) (loop-sim R (opens (each factor-sim)) _ _)
 
@@ -163,7 +163,7 @@ module _ {B B' : Builder} {rel : Relation (B .S) (B' .S)} (M : Model B B' rel)
         operand-sim (due M p x) F p for each λ r.
         term-end M R p r
 
-    sum-sim : Follows M (sum B row e y) (sum B' row' e' y')
+    pub sum-sim : Follows M (sum B row e y) (sum B' row' e' y')
     unfolding sum
     sum-sim x F = eased (λ c s s' p. (opening, refl, refl, p)) (loop-sim R (opens (each term-sim)) _ _)
 

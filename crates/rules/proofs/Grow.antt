@@ -19,7 +19,7 @@ use Rattle.rules.proofs.Ways.{Numbered, Row, numbered, rnil, rcons, roo
 use Rattle.rules.proofs.Ways.{All, timesAll}
 use Rattle.rules.proofs.Laid.{Claim, tree, _⋆_, holds, counts, On, turn, appended, kept}
 use Rattle.rules.proofs.Sim.{Relation, Known, Sim, Both, Via}
-use Rattle.rules.proofs.Model.{Kind, backs}
+use Rattle.rules.proofs.Model.{backs}
 
 -- The same row and cursor in both, and the frame throughout. That the slots are used up is excused: trees have none.
 abbrev pub Beside : Nodes → Relation Nodes (Unit {0})
@@ -101,7 +101,7 @@ module _ {o : Nodes} {P : Known Nodes (Unit {0})} {B : Type 0} {Q : ℕ → B �
 module _ {o : Nodes} {F : Claim} where
   -- a node whose parts stand before it
   pub node-beside :
-      {ts : List Numbered} (k l : ℕ) → Kind k (backs 1 ts) →
+      {ts : List Numbered} (k l : ℕ) → partsOf k ≡ backs 1 ts →
       Sim (Beside o) (At o ts F) (Via root strip (λ t. At o (t ∷ []) F))
       (append k l) (pure (node k l (forest (map strip ts))))
   unfolding parts
@@ -128,7 +128,7 @@ module _ {o : Nodes} {F : Claim} where
 
   -- a node without parts
   pub leaf-beside :
-      {ts : List Numbered} (k l : ℕ) → Kind k [] →
+      {ts : List Numbered} (k l : ℕ) → partsOf k ≡ [] →
       Sim (Beside o) (At o ts F) (Via root strip (λ t. At o (t ∷ ts) F)) (append k l) (pure (node k l fnil))
   unfolding parts
   leaf-beside {ts} k l e =
@@ -150,7 +150,7 @@ module _ {o : Nodes} {F : Claim} where
 
   -- a node that links to a tree among the others
   pub link-beside :
-      {ts : List Numbered} (k : ℕ) (u : Numbered) → Kind k (linked ∷ []) →
+      {ts : List Numbered} (k : ℕ) (u : Numbered) → partsOf k ≡ linked ∷ [] →
       Sim (Beside o) (At o ts (tree u ⋆ F)) (Via root strip (λ t. At o (t ∷ ts) F))
       (append k (root u)) (pure (node k 0 (fcons (strip u) fnil)))
   unfolding parts

@@ -19,5 +19,7 @@ pub mod Beside
 pub mod Forward
 pub mod Moves
 pub mod Starts
+pub mod Words
+pub mod Roots
 pub mod Demand
 pub mod Stars

@@ -10,7 +10,7 @@
 -- shown to agree only if it appends at most five nodes a token. A model with no use for that lets `At` ignore x.
 use Prim.Native.Nat.{ℕ, zero, suc, _+_, _≤_, _<_}
 use mathlib.Core.Bool.{Bool, true, false}
-use mathlib.Core.Path.{_≡_, refl}
+use mathlib.Core.Path.{_≡_, refl, ap}
 use mathlib.Core.List.{List, [], _∷_, map}
 use lib.ListN.{length}
 use lib.Dec.{eqb, ltb}
@@ -67,9 +67,15 @@ equal rel kind l l' f h = go (holdsToken kind) h
     go true h = f h
     go false h = h
 
--- nodes of this kind have these parts
+-- nodes of this kind have these parts, and the kind fits a byte
 abbrev pub Kind : ℕ → List Part → Type 0
-Kind kind parts = partsOf kind ≡ parts
+Kind kind parts = _≡_ {A = List Part × Bool} (partsOf kind, ltb kind 256) (parts, true)
+
+pub parts-of : (kind : ℕ) {parts : List Part} → Kind kind parts → partsOf kind ≡ parts
+parts-of kind e = ap {A = List Part × Bool} (λ p. p .0) e
+
+pub fits-byte : (kind : ℕ) {parts : List Part} → Kind kind parts → ltb kind 256 ≡ true
+fits-byte kind e = ap {A = List Part × Bool} (λ p. p .1) e
 
 -- parts i, i + 1 .. back, one for each
 abbrev pub backs : {N : Type 0} → ℕ → List N → List Part

@@ -5,7 +5,9 @@ pub mod Types
 pub mod Expressions
 pub mod Declarations
 pub mod Trees
+pub mod Lists
 pub mod Columns
 pub mod Ways
 pub mod Demand
+pub mod Words
 pub mod Stars

@@ -5,4 +5,4 @@ use Rattle.codes.specs.declared.Parsed.the-variants.{Node, Refused}
 
 abbrev pub countOf : Parsed → ℕ
 countOf (Node root cursor count) = count
-countOf (Refused number start end cursor count) = count
+countOf (Refused number cursor count start end) = count

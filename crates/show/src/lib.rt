@@ -33,7 +33,7 @@ pub fn print_reply(reply: Parsed) -> u32
             count,
         } => {
             io::write_all(1, b"no");
-            print_number(number as u32);
+            print_number(number);
             print_number(start.0);
             print_number(end.0);
             print_number(cursor.0);
@@ -64,6 +64,23 @@ pub fn print_nodes(node_kinds: &[u8], node_loads: &[u32], count: usize) -> usize
         io::write_all(1, b",");
         print_number(wide(node_kinds[n]));
         print_number(node_loads[n]);
+        n += 1;
+    }
+    io::write_all(1, b"\n");
+    n
+}
+
+// The same of nodes that are a word each.
+pub fn print_words(node_words: &[u32], count: usize) -> usize
+    ensures { λ r. ⌜ r ≤ count ⌝ }
+{
+    let end = least(count, node_words.len());
+    let mut n: usize = 0;
+    while n < end {
+        let word = node_words[n];
+        io::write_all(1, b",");
+        print_number(wide(codes::word_kind(word)));
+        print_number(codes::word_load(word));
         n += 1;
     }
     io::write_all(1, b"\n");

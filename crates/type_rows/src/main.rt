@@ -9,27 +9,20 @@ use codes::Limit;
 use codes::TokenId;
 use codes::ValueTypeKeyword;
 
-// The columns have 8 slots, of which so many are lent.
+// What a slot holds before a node is appended there; no node has this kind.
+const UNUSED: u32 = 255;
+
+// There are 8 slots, of which so many are lent.
 fn show(text: &[u8], kinds: &[u8], types: &[u8], slots: usize)
     requires { ⌜ (length (now types) ≡ length (now kinds)) × (length (now kinds) ≤ Most.Tokens) × (slots ≤ 8) ⌝ }
 {
-    let mut all_kinds = [255u8; 8];
-    let mut all_loads = [0u32; 8];
-    let node_kinds = &mut all_kinds[..slots];
-    let node_loads = &mut all_loads[..slots];
-    let reply = types::parse_type(
-        kinds,
-        types,
-        node_kinds,
-        node_loads,
-        TokenId(0),
-        0,
-        Limit::Nesting,
-    );
+    let mut all_words = [UNUSED; 8];
+    let node_words = &mut all_words[..slots];
+    let reply = types::parse_type(kinds, types, node_words, TokenId(0), 0, Limit::Nesting);
     io::write_all(1, text);
     io::write_all(1, b": ");
     let count = show::print_reply(reply);
-    show::print_nodes(node_kinds, node_loads, count as usize);
+    show::print_words(node_words, count as usize);
 }
 
 // A row of at most four tokens and EndOfSource; each value type is i32.

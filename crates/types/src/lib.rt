@@ -3,8 +3,9 @@ ghost use Prim.Native.Nat.{_+_, _≤_};
 ghost use lib.ListN.{length};
 ghost use Rattle.rules.specs.Codes.Limit as Most;
 ghost use Rattle.rules.specs.Types.{innerType, type, arraySize};
-ghost use Rattle.rules.specs.Columns.{columns};
-ghost use Rattle.codes.specs.Answer.{Gives, Quiet, Sized, row, nodes};
+ghost use Rattle.rules.specs.Words.{words};
+ghost use Rattle.codes.specs.Answer.{row};
+ghost use Rattle.codes.specs.Words.{Gives, Quiet, Sized, nodes};
 ghost use Rattle.nodes.specs.Answer.{Slots};
 ghost use Rattle.types.specs.Answer.{sized, closing, Starts, Shorts, finishing, enclosing, spanning};
 use codes::BaseToken;
@@ -49,7 +50,7 @@ fn close_array(kinds: &[u8], cursor: TokenId, count: u32, kind: u8, load: u32) -
 // An array's size, with its closing bracket.
 fn parse_array_size(kinds: &[u8], cursor: TokenId, count: u32) -> Start
     requires { ⌜ cursor .0 ≤ Most.Tokens ⌝ }
-    ensures { λ r. ⌜ Quiet sized (arraySize columns) (now (kinds .entry)) (cursor .0) count r ⌝ }
+    ensures { λ r. ⌜ Quiet sized (arraySize words) (now (kinds .entry)) (cursor .0) count r ⌝ }
 {
     let at = cursor.0;
     let next = TokenId(at + 1);
@@ -106,26 +107,25 @@ fn start_inner_type(kinds: &[u8], types: &[u8], cursor: TokenId, count: u32) -> 
 // An inner type after its element type: a view's closing parenthesis, and the node.
 fn finish_inner_type(
     kinds: &[u8],
-    node_kinds: &mut [u8],
-    node_loads: &mut [u32],
+    node_words: &mut [u32],
     cursor: TokenId,
     count: u32,
     kind: u8,
     load: u32,
 ) -> Parsed
-    requires { ⌜ Slots (now «node_kinds») (now «node_loads») count × (cursor .0 ≤ Most.Tokens + 1) ⌝ }
-    ensures { λ r. ⌜ Gives (finishing (now (kinds .entry)) kind load) (cursor .0) (nodes (now («node_kinds» .entry)) (now («node_loads» .entry)) count) r (now («node_kinds» .exit)) (now («node_loads» .exit)) ⌝ }
+    requires { ⌜ Slots (now «node_words») count × (cursor .0 ≤ Most.Tokens + 1) × (load ≤ Most.Load) ⌝ }
+    ensures { λ r. ⌜ Gives (finishing (now (kinds .entry)) kind load) (cursor .0) (nodes (now («node_words» .entry)) count) r (now («node_words» .exit)) ⌝ }
 {
     if kind == ParseNode::ViewVT {
         match consume(kinds, cursor, count, BaseToken::ParenRight) {
             Consumed::Next {
                 cursor: after,
                 count: used,
-            } => push(node_kinds, node_loads, after, used, kind, load),
+            } => push(node_words, after, used, kind, load),
             Consumed::Wrong { refusal } => refusal,
         }
     } else {
-        push(node_kinds, node_loads, cursor, count, kind, load)
+        push(node_words, cursor, count, kind, load)
     }
 }
 
@@ -155,26 +155,18 @@ pub fn short_type(kinds: &[u8], types: &[u8], cursor: TokenId) -> Short
 // The element type of a single token that stands here, and the rest of the inner type around it.
 fn enclose(
     kinds: &[u8],
-    node_kinds: &mut [u8],
-    node_loads: &mut [u32],
+    node_words: &mut [u32],
     cursor: TokenId,
     count: u32,
     element: Short,
     kind: u8,
     load: u32,
 ) -> Parsed
-    requires { ⌜ Slots (now «node_kinds») (now «node_loads») count × (cursor .0 ≤ Most.Tokens) ⌝ }
-    ensures { λ r. ⌜ Gives (enclosing (now (kinds .entry)) (element .kind) (element .load) kind load) (cursor .0 + 1) (nodes (now («node_kinds» .entry)) (now («node_loads» .entry)) count) r (now («node_kinds» .exit)) (now («node_loads» .exit)) ⌝ }
+    requires { ⌜ Slots (now «node_words») count × (cursor .0 ≤ Most.Tokens) × (element .load ≤ Most.Load) × (load ≤ Most.Load) ⌝ }
+    ensures { λ r. ⌜ Gives (enclosing (now (kinds .entry)) (element .kind) (element .load) kind load) (cursor .0 + 1) (nodes (now («node_words» .entry)) count) r (now («node_words» .exit)) ⌝ }
 {
     let end = TokenId(cursor.0 + 1);
-    let inner = push(
-        node_kinds,
-        node_loads,
-        end,
-        count,
-        element.kind,
-        element.load,
-    );
+    let inner = push(node_words, end, count, element.kind, element.load);
     let Parsed::Node {
         root: _,
         cursor: after,
@@ -183,7 +175,7 @@ fn enclose(
     else {
         return inner;
     };
-    finish_inner_type(kinds, node_kinds, node_loads, after, used, kind, load)
+    finish_inner_type(kinds, node_words, after, used, kind, load)
 }
 
 // An inner type. `unused` is the nesting that is left. An element type of a single token is read without a call of this
@@ -191,14 +183,13 @@ fn enclose(
 fn parse_inner_type(
     kinds: &[u8],
     types: &[u8],
-    node_kinds: &mut [u8],
-    node_loads: &mut [u32],
+    node_words: &mut [u32],
     cursor: TokenId,
     count: u32,
     unused: u32,
 ) -> Parsed
-    requires { ⌜ Sized (now kinds) (now types) (now «node_kinds») (now «node_loads») (cursor .0) count ⌝ }
-    ensures { λ r. ⌜ Gives (innerType columns (row (now (kinds .entry)) (now (types .entry))) unused) (cursor .0) (nodes (now («node_kinds» .entry)) (now («node_loads» .entry)) count) r (now («node_kinds» .exit)) (now («node_loads» .exit)) ⌝ }
+    requires { ⌜ Sized (now kinds) (now types) (now «node_words») (cursor .0) count ⌝ }
+    ensures { λ r. ⌜ Gives (innerType words (row (now (kinds .entry)) (now (types .entry))) unused) (cursor .0) (nodes (now («node_words» .entry)) count) r (now («node_words» .exit)) ⌝ }
 {
     if unused == 0 {
         return Parsed::Refused {
@@ -210,25 +201,16 @@ fn parse_inner_type(
         };
     }
     match start_inner_type(kinds, types, cursor, count) {
-        Start::Leaf(kind, load, end, used) => push(node_kinds, node_loads, end, used, kind, load),
+        Start::Leaf(kind, load, end, used) => push(node_words, end, used, kind, load),
         Start::Around(kind, load, next, used) => {
             let left = unused - 1;
             let element = short_type(kinds, types, next);
             if element.found && left > 0 {
-                return enclose(
-                    kinds,
-                    node_kinds,
-                    node_loads,
-                    next,
-                    used,
-                    element,
-                    kind,
-                    load,
-                );
+                return enclose(kinds, node_words, next, used, element, kind, load);
             }
             let row = kinds;
             let values = types;
-            let inner = parse_inner_type(row, values, node_kinds, node_loads, next, used, left);
+            let inner = parse_inner_type(row, values, node_words, next, used, left);
             let Parsed::Node {
                 root: _,
                 cursor: after,
@@ -237,31 +219,18 @@ fn parse_inner_type(
             else {
                 return inner;
             };
-            finish_inner_type(kinds, node_kinds, node_loads, after, more, kind, load)
+            finish_inner_type(kinds, node_words, after, more, kind, load)
         }
         Start::NoType(refusal) => refusal,
     }
 }
 
 // The span of a type that begins at the token `start` and ends before the cursor.
-fn push_span(
-    node_kinds: &mut [u8],
-    node_loads: &mut [u32],
-    cursor: TokenId,
-    count: u32,
-    start: u32,
-) -> Parsed
-    requires { ⌜ Slots (now «node_kinds») (now «node_loads») count ⌝ }
-    ensures { λ r. ⌜ Gives (spanning start (cursor .0)) (cursor .0) (nodes (now («node_kinds» .entry)) (now («node_loads» .entry)) count) r (now («node_kinds» .exit)) (now («node_loads» .exit)) ⌝ }
+fn push_span(node_words: &mut [u32], cursor: TokenId, count: u32, start: u32) -> Parsed
+    requires { ⌜ Slots (now «node_words») count × (cursor .0 ≤ Most.Load) × (start ≤ Most.Load) ⌝ }
+    ensures { λ r. ⌜ Gives (spanning start (cursor .0)) (cursor .0) (nodes (now («node_words» .entry)) count) r (now («node_words» .exit)) ⌝ }
 {
-    let span = push(
-        node_kinds,
-        node_loads,
-        cursor,
-        count,
-        ParseNode::EndOfSpan,
-        cursor.0,
-    );
+    let span = push(node_words, cursor, count, ParseNode::EndOfSpan, cursor.0);
     let Parsed::Node {
         root: _,
         cursor: after,
@@ -271,8 +240,7 @@ fn push_span(
         return span;
     };
     push(
-        node_kinds,
-        node_loads,
+        node_words,
         after,
         used,
         ParseNode::CompositeValueType,
@@ -284,16 +252,15 @@ fn push_span(
 fn parse_any_type(
     kinds: &[u8],
     types: &[u8],
-    node_kinds: &mut [u8],
-    node_loads: &mut [u32],
+    node_words: &mut [u32],
     cursor: TokenId,
     count: u32,
     unused: u32,
 ) -> Parsed
-    requires { ⌜ Sized (now kinds) (now types) (now «node_kinds») (now «node_loads») (cursor .0) count ⌝ }
-    ensures { λ r. ⌜ Gives (type columns (row (now (kinds .entry)) (now (types .entry))) unused) (cursor .0) (nodes (now («node_kinds» .entry)) (now («node_loads» .entry)) count) r (now («node_kinds» .exit)) (now («node_loads» .exit)) ⌝ }
+    requires { ⌜ Sized (now kinds) (now types) (now «node_words») (cursor .0) count ⌝ }
+    ensures { λ r. ⌜ Gives (type words (row (now (kinds .entry)) (now (types .entry))) unused) (cursor .0) (nodes (now («node_words» .entry)) count) r (now («node_words» .exit)) ⌝ }
 {
-    let inner = parse_inner_type(kinds, types, node_kinds, node_loads, cursor, count, unused);
+    let inner = parse_inner_type(kinds, types, node_words, cursor, count, unused);
     let Parsed::Node {
         root: _,
         cursor: after,
@@ -305,7 +272,7 @@ fn parse_any_type(
     let start = cursor.0;
     let end = after.0;
     if start + 1 < end {
-        push_span(node_kinds, node_loads, after, used, start)
+        push_span(node_words, after, used, start)
     } else {
         inner
     }
@@ -315,19 +282,18 @@ fn parse_any_type(
 pub fn parse_type(
     kinds: &[u8],
     types: &[u8],
-    node_kinds: &mut [u8],
-    node_loads: &mut [u32],
+    node_words: &mut [u32],
     cursor: TokenId,
     count: u32,
     unused: u32,
 ) -> Parsed
-    requires { ⌜ Sized (now kinds) (now types) (now «node_kinds») (now «node_loads») (cursor .0) count ⌝ }
-    ensures { λ r. ⌜ Gives (type columns (row (now (kinds .entry)) (now (types .entry))) unused) (cursor .0) (nodes (now («node_kinds» .entry)) (now («node_loads» .entry)) count) r (now («node_kinds» .exit)) (now («node_loads» .exit)) ⌝ }
+    requires { ⌜ Sized (now kinds) (now types) (now «node_words») (cursor .0) count ⌝ }
+    ensures { λ r. ⌜ Gives (type words (row (now (kinds .entry)) (now (types .entry))) unused) (cursor .0) (nodes (now («node_words» .entry)) count) r (now («node_words» .exit)) ⌝ }
 {
     let short = short_type(kinds, types, cursor);
     if short.found && unused > 0 {
         let next = TokenId(cursor.0 + 1);
-        return push(node_kinds, node_loads, next, count, short.kind, short.load);
+        return push(node_words, next, count, short.kind, short.load);
     }
-    parse_any_type(kinds, types, node_kinds, node_loads, cursor, count, unused)
+    parse_any_type(kinds, types, node_words, cursor, count, unused)
 }

@@ -1,35 +1,10 @@
 /* A sum, refusals, declarations, a reply with too few places, and parts of nodes. */
 #include "penne.h"
 
-#include <stdio.h>
-#include <string.h>
-
-#define SLOTS 16
+#include "expect.h"
 
 static uint8_t node_kinds[SLOTS];
 static uint32_t node_loads[SLOTS];
-static uint32_t reply[PENNE_REPLY_PLACES];
-
-static int failed = 0;
-
-static void expect(bool holds, const char *what)
-{
-    if (!holds) {
-        printf("not so: %s\n", what);
-        failed = 1;
-    }
-}
-
-static bool replied(uint32_t a, uint32_t b, uint32_t c, uint32_t d, uint32_t e, uint32_t f)
-{
-    const uint32_t expected[PENNE_REPLY_PLACES] = {a, b, c, d, e, f};
-    return memcmp(reply, expected, sizeof reply) == 0;
-}
-
-/* 1 + 2 */
-static const uint8_t sum[] = {PENNE_BASE_TOKEN_NAKED_DECIMAL, PENNE_BASE_TOKEN_PLUS, PENNE_BASE_TOKEN_NAKED_DECIMAL,
-                              PENNE_BASE_TOKEN_END_OF_SOURCE};
-static const uint8_t no_types[4] = {0};
 
 static void a_sum(void)
 {

@@ -4,6 +4,7 @@
 //! what disturbs the machine for a while disturbs all of them alike. The tokens of a row are made
 //! before, and nodes are not read. No buffer is cleared, before or between parses.
 
+mod placement;
 mod rows;
 mod sides;
 mod stack;
@@ -16,9 +17,11 @@ use sides::{Buffers, Ready, SIDES, Side};
 
 const USAGE: &str = "\
 usage: bencher [SAMPLES]                times, from so many samples of each row and side (501)
+       bencher --ratios SAMPLES         ratios to the Rust's times of the fastest 5%, one row a line:
+                                        name, ours, words
        bencher --names                  the rows that are timed, one a line
        bencher --count ROW SIDE PARSES  parses a row (a line of --names, from 0) by a side (rust,
-                                        ours, checks) so many times, for callgrind
+                                        ours, words, checks) so many times, for callgrind
        bencher --stack                  the stack that the deepest rows use";
 
 /// A sample is as many parses as take about this long.
@@ -30,8 +33,8 @@ struct Timed {
     ready: Ready,
     nodes: usize,
     /// How many parses make a sample, for each side.
-    parses: [u32; 3],
-    times: [Vec<f64>; 3],
+    parses: [u32; SIDES.len()],
+    times: [Vec<f64>; SIDES.len()],
 }
 
 impl Timed {
@@ -42,10 +45,10 @@ impl Timed {
             case,
             ready,
             nodes,
-            parses: [5; 3],
+            parses: [5; SIDES.len()],
             times: Default::default(),
         };
-        for side in 0..3 {
+        for side in 0..SIDES.len() {
             let once = timed.sample(side, buffers) * timed.case.rows.len() as f64;
             timed.parses[side] = (SAMPLE_NANOSECONDS / once).ceil().max(1.0) as u32;
         }
@@ -65,9 +68,9 @@ impl Timed {
     }
 
     /// The times of the sides at a part of their sorted samples: 0.5 gives the medians.
-    fn at(&self, part: f64) -> [f64; 3] {
+    fn at(&self, part: f64) -> [f64; SIDES.len()] {
         let place = |times: &Vec<f64>| ((times.len() - 1) as f64 * part).round() as usize;
-        [0, 1, 2].map(|side| self.times[side][place(&self.times[side])])
+        self.times.each_ref().map(|times| times[place(times)])
     }
 
     /// Tokens a row.
@@ -83,8 +86,8 @@ fn time(cases: Vec<Case>, samples: usize) -> Vec<Timed> {
     let mut timed: Vec<Timed> = timed.collect();
     for round in 0..samples {
         for case in &mut timed {
-            for turn in 0..3 {
-                let side = (turn + round) % 3;
+            for turn in 0..SIDES.len() {
+                let side = (turn + round) % SIDES.len();
                 let time = case.sample(side, buffers);
                 case.times[side].push(time);
             }
@@ -99,22 +102,33 @@ fn time(cases: Vec<Case>, samples: usize) -> Vec<Timed> {
 fn print_times(title: &str, timed: &[Timed]) {
     println!("\n{title}\n");
     println!(
-        "| row | tokens | nodes | Rust, ns | ours, ns | ratio | checks, ns | ours without, ns | ratio | fastest 5%: Rust, ns | ours, ns | ratio |"
+        "| row | tokens | nodes | Rust, ns | ours, ns | ratio | words, ns | ratio | checks, ns | ours without, ns | ratio | fastest 5%: Rust, ns | ours | ratio | words | ratio |"
     );
-    println!("|---|---|---|---|---|---|---|---|---|---|---|---|");
+    println!("|---|---|---|---|---|---|---|---|---|---|---|---|---|---|---|---|");
     for case in timed {
-        let [rust, ours, checks] = case.at(0.5);
-        let [rust5, ours5, _] = case.at(0.05);
+        let [rust, ours, words, checks] = case.at(0.5);
+        let [rust5, ours5, words5, _] = case.at(0.05);
         println!(
-            "| {} | {} | {} | {rust:.0} | {ours:.0} | {:.2} | {checks:.0} | {:.0} | {:.2} | {rust5:.0} | {ours5:.0} | {:.2} |",
+            "| {} | {} | {} | {rust:.0} | {ours:.0} | {:.2} | {words:.0} | {:.2} | {checks:.0} | {:.0} | {:.2} | {rust5:.0} | {ours5:.0} | {:.2} | {words5:.0} | {:.2} |",
             case.case.name,
             case.tokens(),
             case.nodes / case.case.rows.len(),
             ours / rust,
+            words / rust,
             ours - checks,
             (ours - checks) / rust,
             ours5 / rust5,
+            words5 / rust5,
         );
+    }
+}
+
+/// Ratios to the Rust's times, of the fastest 5%, which other work on the machine disturbs least.
+fn print_ratios(timed: &[Timed]) {
+    for case in timed {
+        let [rust, ours, words, _] = case.at(0.05);
+        let name = &case.case.name;
+        println!("{name}\t{:.4}\t{:.4}", ours / rust, words / rust);
     }
 }
 
@@ -127,7 +141,7 @@ fn print_sizes(kinds: &[&[Timed]]) {
     for size in 0..kinds[0].len() {
         print!("| {} |", kinds[kinds.len() - 1][size].tokens());
         for kind in kinds {
-            let [rust, ours, _] = kind[size].at(0.5);
+            let [rust, ours, ..] = kind[size].at(0.5);
             let tokens = kind[size].tokens() as f64;
             print!(" {:.2} / {:.2} |", ours / tokens, rust / tokens);
         }
@@ -138,20 +152,21 @@ fn print_sizes(kinds: &[&[Timed]]) {
 fn print_stack() {
     let buffers = &mut Buffers::new();
     let empty = stack::used(|| ());
-    println!("| row | ours, bytes | Rust, bytes |");
-    println!("|---|---|---|");
+    println!("| row | ours, bytes | words, bytes | Rust, bytes |");
+    println!("|---|---|---|---|");
     for case in rows::deep() {
         let ready = Ready::new(&case);
         let of = |side, buffers: &mut Buffers| stack::used(|| ready.parse(side, buffers)) - empty;
         let ours = of(Side::Ours, buffers);
+        let words = of(Side::Words, buffers);
         let rust = of(Side::Rust, buffers);
-        println!("| {} | {ours} | {rust} |", case.name);
+        println!("| {} | {ours} | {words} | {rust} |", case.name);
     }
 }
 
 fn count(row: usize, side: &str, parses: u32) -> Option<()> {
     let case = rows::goals().into_iter().chain(rows::others()).nth(row)?;
-    let side = SIDES[["rust", "ours", "checks"]
+    let side = SIDES[["rust", "ours", "words", "checks"]
         .iter()
         .position(|&name| name == side)?];
     let ready = Ready::new(&case);
@@ -176,6 +191,10 @@ fn run(arguments: &[&str]) -> Option<()> {
         }
         ["--count", row, side, parses] => {
             count(row.parse().ok()?, side, parses.parse().ok()?)?;
+        }
+        ["--ratios", samples] => {
+            let cases = rows::goals().into_iter().chain(rows::others()).collect();
+            print_ratios(&time(cases, samples.parse().ok()?));
         }
         ["--stack"] => print_stack(),
         [] | [_] => {

@@ -4,7 +4,8 @@ use std::hint::black_box;
 
 use oracle::{Buffer, Entry, Reply, Row};
 use penne_parser::raw::{self, PLACES};
-use penne_parser::{self as penne, Slots};
+use penne_parser::words::WordSlots;
+use penne_parser::{self as penne, Slots, unpack};
 
 use crate::rows::Case;
 
@@ -22,18 +23,21 @@ pub enum Side {
     Rust,
     /// The library's function, its checks of the input included.
     Ours,
+    /// The same with a word a node.
+    Words,
     /// The library's function with a cursor just past the row: it checks the whole input, as it
     /// does before a parse, and then refuses with 30.
     Checks,
 }
 
-pub const SIDES: [Side; 3] = [Side::Rust, Side::Ours, Side::Checks];
+pub const SIDES: [Side; 4] = [Side::Rust, Side::Ours, Side::Words, Side::Checks];
 
 /// The buffers of both sides.
 pub struct Buffers {
     rust: Buffer,
     node_kinds: Vec<u8>,
     node_loads: Vec<u32>,
+    node_words: Vec<u32>,
 }
 
 impl Buffers {
@@ -42,6 +46,7 @@ impl Buffers {
             rust: Buffer::with_room(SLOTS),
             node_kinds: vec![0; SLOTS],
             node_loads: vec![0; SLOTS],
+            node_words: vec![0; SLOTS],
         }
     }
 }
@@ -72,6 +77,9 @@ impl Ready {
             Side::Ours => self.ours.iter().for_each(|row| {
                 black_box(ours(self.entry, row, 0, buffers));
             }),
+            Side::Words => self.ours.iter().for_each(|row| {
+                black_box(words(self.entry, row, buffers));
+            }),
             Side::Checks => self.ours.iter().for_each(|row| {
                 black_box(ours(self.entry, row, row.0.len() as u32, buffers));
             }),
@@ -89,8 +97,10 @@ impl Ready {
             };
             assert_eq!(cursor as usize, row.0.len() - 1);
             assert_eq!(ours(self.entry, row, 0, buffers), reply.numbers());
+            assert_eq!(words(self.entry, row, buffers), reply.numbers());
             for (place, node) in buffers.rust.appended().enumerate() {
                 assert_eq!((buffers.node_kinds[place], buffers.node_loads[place]), node);
+                assert_eq!(unpack(buffers.node_words[place]), node);
             }
             let past = ours(self.entry, row, row.0.len() as u32, buffers);
             assert_eq!(past[..2], [1, 30]);
@@ -111,6 +121,11 @@ fn rust(entry: Entry, row: &Row, buffer: &mut Buffer) -> Reply {
     }
 }
 
+fn numbered(entry: Entry) -> raw::Entry {
+    let entry = raw::Entry::numbered(entry as u8, START, u32::from(FLAGS), WORD);
+    entry.expect("one of five")
+}
+
 #[inline(never)]
 fn ours(
     entry: Entry,
@@ -118,20 +133,25 @@ fn ours(
     cursor: u32,
     to: &mut Buffers,
 ) -> [u32; PLACES] {
-    let entry = raw::Entry::numbered(entry as u8, START, u32::from(FLAGS), WORD);
-    let entry = entry.expect("one of five");
     let slots = Slots {
         kinds: &mut to.node_kinds,
         loads: &mut to.node_loads,
         count: &mut 0,
     };
     let mut reply = [0; PLACES];
-    raw::parse(
-        entry,
-        penne::Row::new(kinds, types),
-        cursor,
-        slots,
-        &mut reply,
-    );
+    let row = penne::Row::new(kinds, types);
+    raw::parse(numbered(entry), row, cursor, slots, &mut reply);
+    reply
+}
+
+#[inline(never)]
+fn words(entry: Entry, (kinds, types): &(Vec<u8>, Vec<u8>), to: &mut Buffers) -> [u32; PLACES] {
+    let slots = WordSlots {
+        words: &mut to.node_words,
+        count: &mut 0,
+    };
+    let mut reply = [0; PLACES];
+    let row = penne::Row::new(kinds, types);
+    raw::parse_words(numbered(entry), row, 0, slots, &mut reply);
     reply
 }

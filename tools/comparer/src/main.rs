@@ -8,16 +8,16 @@ use std::sync::Mutex;
 use std::sync::atomic::{AtomicUsize, Ordering};
 use std::time::Instant;
 
-use comparer::compare::{Comparer, Finding};
+use comparer::compare::{Comparer, Finding, Parser};
 use comparer::families::{Family, Part};
 use comparer::question::{Entry, Question, Row, read_line};
 use comparer::tally::Tally;
-use ours::Ours;
+use ours::{InWords, Ours};
 
 const USAGE: &str = "\
 Compares the proved parser with upstream's, row by row.
 
-usage: compare [--seed N] [--rows N] [--only FAMILY] [--threads N]
+usage: compare [--seed N] [--rows N] [--only FAMILY] [--threads N] [--words]
        compare --ask 'ENTRY CURSOR BASE FLAGS START WORDKIND KINDS TYPES SLOTS'
 
   --seed N       which random rows are made (1)
@@ -25,6 +25,7 @@ usage: compare [--seed N] [--rows N] [--only FAMILY] [--threads N]
   --only FAMILY  leave the others out: limits, short, four, value-types, dozens, six, rules, damaged, any, slots,
                  deep or inputs (all)
   --threads N    how many run at once (as many as there are processors)
+  --words        ask the entries with a word a node (those with two columns)
   --ask ..       print both answers to one question: ENTRY is 0 to 4 for expression, type, constant, struct and word,
                  KINDS and TYPES have two hexadecimal digits a token, and `-` stands for none, or for zeros
 
@@ -36,6 +37,8 @@ struct Options {
     rows: u64,
     only: Option<Family>,
     threads: usize,
+    /// Whether the entries with a word a node are asked.
+    words: bool,
 }
 
 fn main() -> ExitCode {
@@ -101,6 +104,7 @@ fn options(arguments: &[&str]) -> Result<Options, String> {
         rows: 100_000_000,
         only: None,
         threads: std::thread::available_parallelism().map_or(1, usize::from),
+        words: false,
     };
     let mut arguments = arguments.iter();
     while let Some(&argument) = arguments.next() {
@@ -115,6 +119,7 @@ fn options(arguments: &[&str]) -> Result<Options, String> {
             "--rows" => options.rows = number(argument, value()?)?,
             "--threads" => options.threads = number(argument, value()?)?,
             "--only" => options.only = Some(family(value()?)?),
+            "--words" => options.words = true,
             _ => return Err(format!("there is no option `{argument}`")),
         }
     }
@@ -155,7 +160,10 @@ fn compare_all(options: &Options) -> (Vec<(Family, Tally)>, Vec<Finding>) {
     std::thread::scope(|scope| {
         for _ in 0..options.threads {
             scope.spawn(|| {
-                oracle::with_large_stack(|| work(options.seed, &parts, &taken, &results))
+                oracle::with_large_stack(|| match options.words {
+                    false => work(Ours, options.seed, &parts, &taken, &results),
+                    true => work(InWords::new(), options.seed, &parts, &taken, &results),
+                })
             });
         }
     });
@@ -164,8 +172,8 @@ fn compare_all(options: &Options) -> (Vec<(Family, Tally)>, Vec<Finding>) {
 
 type Results = Mutex<(Vec<(Family, Tally)>, Vec<Finding>)>;
 
-fn work(seed: u64, parts: &[Part], taken: &AtomicUsize, results: &Results) {
-    let mut comparer = Comparer::new(Ours);
+fn work<P: Parser>(parser: P, seed: u64, parts: &[Part], taken: &AtomicUsize, results: &Results) {
+    let mut comparer = Comparer::new(parser);
     while let Some(part) = parts.get(taken.fetch_add(1, Ordering::Relaxed)) {
         part.run(seed, &mut comparer);
         let (tallies, _) = &mut *results.lock().expect("no thread panicked");

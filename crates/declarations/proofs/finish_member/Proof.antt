@@ -22,6 +22,5 @@ finish-member-spec =
     push-step-requires
     (λ c. search needs)
     (λ c. search needs)
-    (λ c. search needs)
     returns
     returns-2)

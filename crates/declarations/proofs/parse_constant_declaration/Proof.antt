@@ -1,5 +1,5 @@
 use Rattle.declarations.proofs.Laws.{constant-stopped, constant-read}
-use Rattle.declarations.proofs.Bounds.{typed-sized}
+use Rattle.declarations.proofs.Bounds.{typed-sized, typed-fits}
 use borrow.Author.Needs.{needs}
 use Rattle.declarations.proofs.parse_constant_declaration.Statement.{statement}
 use Rattle.declarations.proofs.parse_constant_declaration.Tie as tie
@@ -8,7 +8,8 @@ returns : tie.Need-returns
 returns c = search (needs, constant-stopped)
 
 parse-rest-of-constant-requires : tie.Need-parse-rest-of-constant-requires
-parse-rest-of-constant-requires c κs = search (needs, typed-sized)
+parse-rest-of-constant-requires c κs =
+    (search (needs, typed-sized), search needs, search needs, search needs, search (needs, typed-fits))
 
 returns-2 : tie.Need-returns-2
 returns-2 c = search (needs, constant-read)
@@ -21,9 +22,7 @@ parse-constant-declaration-spec =
     (λ c. search needs)
     (λ c. search needs)
     (λ c. search needs)
-    (λ c. search needs)
     returns
     parse-rest-of-constant-requires
-    (λ c. search needs)
     (λ c. search needs)
     returns-2)

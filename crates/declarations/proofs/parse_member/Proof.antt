@@ -5,7 +5,7 @@ use Rattle.declarations.proofs.parse_member.Statement.{statement}
 use Rattle.declarations.proofs.parse_member.Tie as tie
 
 parse-member-type-requires : tie.Need-parse-member-type-requires
-parse-member-type-requires c κs = search (needs, name-sized)
+parse-member-type-requires c κs = (search (needs, name-sized), search needs)
 
 returns : tie.Need-returns
 returns c = search (needs, member-named)
@@ -20,7 +20,6 @@ parse-member-spec =
     (λ c κs. search needs)
     (λ c. search needs)
     parse-member-type-requires
-    (λ c. search needs)
     (λ c. search needs)
     (λ c. search needs)
     returns

@@ -26,9 +26,7 @@ parse-member-item-spec =
     (λ c. search needs)
     (λ c. search needs)
     (λ c. search needs)
-    (λ c. search needs)
     returns-2
     finish-member-requires
-    (λ c. search needs)
     (λ c. search needs)
     returns-3)

@@ -8,7 +8,7 @@ returns : tie.Need-returns
 returns c = search (needs, constant-value-stopped)
 
 push-constant-requires : tie.Need-push-constant-requires
-push-constant-requires c κs = search (needs, value-slots)
+push-constant-requires c κs = (search (needs, value-slots), search needs, search needs, search needs, search needs)
 
 returns-2 : tie.Need-returns-2
 returns-2 c = search (needs, constant-value-read)
@@ -21,9 +21,7 @@ parse-rest-of-constant-spec =
     (λ c. search needs)
     (λ c. search needs)
     (λ c. search needs)
-    (λ c. search needs)
     returns
     push-constant-requires
-    (λ c. search needs)
     (λ c. search needs)
     returns-2)

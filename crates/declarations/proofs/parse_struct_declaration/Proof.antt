@@ -8,10 +8,10 @@ consume-optional-requires : tie.Need-consume-optional-requires
 consume-optional-requires c κs = search (needs, past-name)
 
 push-opaque-struct-requires : tie.Need-push-opaque-struct-requires
-push-opaque-struct-requires c κs = search (needs, semicolon-slots)
+push-opaque-struct-requires c κs = (search (needs, semicolon-slots), search needs, search needs, search needs)
 
 parse-structure-requires : tie.Need-parse-structure-requires
-parse-structure-requires c κs = search (needs, semicolon-sized)
+parse-structure-requires c κs = (search (needs, semicolon-sized), search needs, search needs, search needs, search needs)
 
 returns : tie.Need-returns
 returns c = search (needs, struct-opaque)
@@ -33,9 +33,7 @@ parse-struct-declaration-spec =
     parse-structure-requires
     (λ c. search needs)
     (λ c. search needs)
-    (λ c. search needs)
     returns
-    (λ c. search needs)
     (λ c. search needs)
     returns-2
     returns-3)

@@ -22,6 +22,5 @@ parse-struct-members-spec =
     parse-rest-of-members-requires
     (λ c. search needs)
     (λ c. search needs)
-    (λ c. search needs)
     returns
     returns-2)

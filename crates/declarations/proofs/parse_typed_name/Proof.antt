@@ -22,6 +22,5 @@ parse-typed-name-spec =
     parse-type-requires
     (λ c. search needs)
     (λ c. search needs)
-    (λ c. search needs)
     returns
     returns-2)

@@ -32,16 +32,13 @@ parse-value-spec =
     (λ c. search needs)
     (λ c. search needs)
     (λ c. search needs)
-    (λ c. search needs)
     returns
     consume-requires-2
     (λ c. search needs)
     (λ c. search needs)
     (λ c. search needs)
     (λ c. search needs)
-    (λ c. search needs)
     returns-2
-    (λ c. search needs)
     (λ c. search needs)
     returns-3
     returns-4)

@@ -1,11 +1,12 @@
 use Rattle.declarations.proofs.Laws.{word-unnamed, word-read}
-use Rattle.declarations.proofs.Bounds.{consumed-sized}
+use Rattle.declarations.proofs.Bounds.{consumed-sized, size-fits}
 use borrow.Author.Needs.{needs}
 use Rattle.declarations.proofs.parse_word_declaration.Statement.{statement}
 use Rattle.declarations.proofs.parse_word_declaration.Tie as tie
 
 parse-structure-requires : tie.Need-parse-structure-requires
-parse-structure-requires c κs = search (needs, consumed-sized)
+parse-structure-requires c κs =
+    (search (needs, consumed-sized), search needs, search needs, search (needs, size-fits), search needs)
 
 returns : tie.Need-returns
 returns c = search (needs, word-read)
@@ -21,7 +22,6 @@ parse-word-declaration-spec =
     (λ c. search needs)
     (λ c κs. search needs)
     parse-structure-requires
-    (λ c. search needs)
     (λ c. search needs)
     (λ c. search needs)
     returns

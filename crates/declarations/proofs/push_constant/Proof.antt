@@ -8,7 +8,7 @@ returns : tie.Need-returns
 returns c = search (needs, constant-refused)
 
 push-declaration-requires : tie.Need-push-declaration-requires
-push-declaration-requires c κs = search (needs, push-slots)
+push-declaration-requires c κs = (search (needs, push-slots), search needs, search needs, search needs)
 
 returns-2 : tie.Need-returns-2
 returns-2 c = search (needs, constant-pushed)
@@ -21,9 +21,7 @@ push-constant-spec =
     (λ c. search needs)
     (λ c. search needs)
     (λ c. search needs)
-    (λ c. search needs)
     returns
     push-declaration-requires
-    (λ c. search needs)
     (λ c. search needs)
     returns-2)

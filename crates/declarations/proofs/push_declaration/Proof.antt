@@ -8,7 +8,7 @@ returns : tie.Need-returns
 returns c = search (needs, declaration-refused)
 
 push-requires : tie.Need-push-requires
-push-requires c κs = search (needs, two-slots)
+push-requires c κs = (search (needs, two-slots), search needs)
 
 returns-2 : tie.Need-returns-2
 returns-2 c = search (needs, declaration-pushed)
@@ -21,9 +21,7 @@ push-declaration-spec =
     (λ c. search needs)
     (λ c. search needs)
     (λ c. search needs)
-    (λ c. search needs)
     returns
     push-requires
-    (λ c. search needs)
     (λ c. search needs)
     returns-2)

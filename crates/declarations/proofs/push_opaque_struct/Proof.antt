@@ -1,6 +1,6 @@
 use Rattle.declarations.proofs.Laws.{opaque-stopped, opaque-pushed}
-use Rattle.declarations.proofs.Bounds.{none-fits}
-use Rattle.nodes.proofs.Bounds.{end-slots}
+use Rattle.declarations.proofs.Bounds.{none-fits, opaque-fits}
+use Rattle.nodes.proofs.Bounds.{end-slots, end-root}
 use borrow.Author.Needs.{needs}
 use Rattle.declarations.proofs.push_opaque_struct.Statement.{statement}
 use Rattle.declarations.proofs.push_opaque_struct.Tie as tie
@@ -12,7 +12,14 @@ returns : tie.Need-returns
 returns c = search (needs, opaque-stopped)
 
 push-structure-requires : tie.Need-push-structure-requires
-push-structure-requires c κs = search (needs, end-slots)
+push-structure-requires c κs = (
+  search (needs, end-slots),
+  search needs,
+  search (needs, opaque-fits),
+  search needs,
+  search needs,
+  search (needs, end-root, none-fits),
+)
 
 returns-2 : tie.Need-returns-2
 returns-2 c = search (needs, opaque-pushed)
@@ -26,10 +33,8 @@ push-opaque-struct-spec =
     (λ c. search needs)
     (λ c. search needs)
     (λ c. search needs)
-    (λ c. search needs)
     returns
     (λ c κs. search needs)
     push-structure-requires
-    (λ c. search needs)
     (λ c. search needs)
     returns-2)

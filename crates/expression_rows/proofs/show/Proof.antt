@@ -10,7 +10,6 @@ parse-expression-requires c κs = record {
   types = simp length-take (omega arith);
   tokens = simp length-take (omega arith);
   at = simp length-take (omega arith);
-  loads = simp length-take;
   slots = simp length-take (omega arith);
   used = search needs;
 }
@@ -19,8 +18,6 @@ pub show-spec : {M : Type 1} → statement M
 show-spec =
     tie.close
     (tie.spec
-    (λ c. search needs)
-    (λ c. simp length-take (omega arith))
     (λ c. search needs)
     (λ c. simp length-take (omega arith))
     (λ c. simp length-take (omega arith))

@@ -7,10 +7,10 @@ push-closed-requires : tie.Need-push-closed-requires
 push-closed-requires c κs = search needs
 
 push-prefix-requires : tie.Need-push-prefix-requires
-push-prefix-requires c κs = search needs
+push-prefix-requires c κs = (search needs, search needs, search needs)
 
 push-prefix-requires-2 : tie.Need-push-prefix-requires-2
-push-prefix-requires-2 c κs = search needs
+push-prefix-requires-2 c κs = (search needs, search needs, search needs)
 
 same-length : tie.Need-same-length
 same-length c = search needs
@@ -24,17 +24,8 @@ returns c = search (needs, length-ends)
 same-length-3 : tie.Need-same-length-3
 same-length-3 c = search needs
 
-same-length-4 : tie.Need-same-length-4
-same-length-4 c = search needs
-
 returns-2 : tie.Need-returns-2
 returns-2 c = search (needs, prefix-ends, complement)
-
-same-length-5 : tie.Need-same-length-5
-same-length-5 c = search needs
-
-same-length-6 : tie.Need-same-length-6
-same-length-6 c = search needs
 
 returns-3 : tie.Need-returns-3
 returns-3 c = search (needs, prefix-ends, negative)
@@ -50,12 +41,9 @@ finish-unary-spec =
     push-prefix-requires
     push-prefix-requires-2
     same-length
-    same-length-2
     returns
-    same-length-3
-    same-length-4
+    same-length-2
     returns-2
-    same-length-5
-    same-length-6
+    same-length-3
     returns-3
     returns-4)

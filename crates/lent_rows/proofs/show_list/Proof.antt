@@ -1,49 +1,27 @@
--- `lent_rows::show_list` is safe: the parts of the columns are as long as is said.
+-- `lent_rows::show_list` is safe: the parts of the words are as long as is said.
 use native.Mathlib.Omega.{arith}
 use lib.ListN.{length-take}
 use borrow.Author.Needs.{needs}
 use Rattle.lent_rows.proofs.show_list.Statement.{statement}
 use Rattle.lent_rows.proofs.show_list.Tie as tie
 
-array-borrow-prefix-all-kinds : tie.Need-array-borrow-prefix-all-kinds
-array-borrow-prefix-all-kinds c = search needs
+array-borrow-prefix-all-words : tie.Need-array-borrow-prefix-all-words
+array-borrow-prefix-all-words c = search needs
 
-slice-aggregate-node-kinds : tie.Need-slice-aggregate-node-kinds
-slice-aggregate-node-kinds c = simp length-take (omega arith)
+slice-aggregate-node-words : tie.Need-slice-aggregate-node-words
+slice-aggregate-node-words c = simp length-take (omega arith)
 
-array-borrow-prefix-all-loads : tie.Need-array-borrow-prefix-all-loads
-array-borrow-prefix-all-loads c = search needs
+array-borrow-prefix-core-words : tie.Need-array-borrow-prefix-core-words
+array-borrow-prefix-core-words c = search needs
 
-slice-aggregate-node-loads : tie.Need-slice-aggregate-node-loads
-slice-aggregate-node-loads c = simp length-take (omega arith)
-
-array-borrow-prefix-core-kinds : tie.Need-array-borrow-prefix-core-kinds
-array-borrow-prefix-core-kinds c = search needs
-
-slice-aggregate-node-kinds-2 : tie.Need-slice-aggregate-node-kinds-2
-slice-aggregate-node-kinds-2 c = simp length-take (omega arith)
-
-array-borrow-prefix-core-loads : tie.Need-array-borrow-prefix-core-loads
-array-borrow-prefix-core-loads c = search needs
-
-slice-aggregate-node-loads-2 : tie.Need-slice-aggregate-node-loads-2
-slice-aggregate-node-loads-2 c = simp length-take (omega arith)
+slice-aggregate-node-words-2 : tie.Need-slice-aggregate-node-words-2
+slice-aggregate-node-words-2 c = simp length-take (omega arith)
 
 list-by-record-requires : tie.Need-list-by-record-requires
-list-by-record-requires c κs = record {
-  loads = simp length-take;
-  slots = simp length-take (omega arith);
-  used = search
-      needs;
-}
+list-by-record-requires c κs = (record { slots = simp length-take (omega arith); used = search needs }, search needs)
 
 list-by-core-requires : tie.Need-list-by-core-requires
-list-by-core-requires c κs = record {
-  loads = simp length-take;
-  slots = simp length-take (omega arith);
-  used = search
-      needs;
-}
+list-by-core-requires c κs = (record { slots = simp length-take (omega arith); used = search needs }, search needs)
 
 slice-aggregate-print-list : tie.Need-slice-aggregate-print-list
 slice-aggregate-print-list c = search needs
@@ -73,14 +51,10 @@ pub show-list-spec : {M : Type 1} → statement M
 show-list-spec =
     tie.close
     (tie.spec
-    array-borrow-prefix-all-kinds
-    slice-aggregate-node-kinds
-    array-borrow-prefix-all-loads
-    slice-aggregate-node-loads
-    array-borrow-prefix-core-kinds
-    slice-aggregate-node-kinds-2
-    array-borrow-prefix-core-loads
-    slice-aggregate-node-loads-2
+    array-borrow-prefix-all-words
+    slice-aggregate-node-words
+    array-borrow-prefix-core-words
+    slice-aggregate-node-words-2
     list-by-record-requires
     list-by-core-requires
     slice-aggregate-print-list

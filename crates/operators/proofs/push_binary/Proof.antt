@@ -9,18 +9,22 @@ returns : tie.Need-returns
 returns c = search (needs, item-stopped)
 
 push-requires : tie.Need-push-requires
-push-requires c κs = search (needs, push-slots)
+push-requires c κs = (search (needs, push-slots), search needs)
 
 returns-2 : tie.Need-returns-2
 returns-2 c = search (needs, operator-stopped)
 
 push-requires-2 : tie.Need-push-requires-2
 push-requires-2 c κs =
-    let b = c .before .before .before .before .before .before .before .before .before in
-    let a = b .before .before .before .before in
-    let o = a .before .before .before .before .before .before in
-    push-slots _ _ (b .push .ensures) (c .before .before .before .operator .given .1)
-    (push-slots _ _ (o .push-older-node .ensures) (a .item .given .1) (o .before .before .before .before .before .pre))
+    let c₁ = c .before .before in
+    let c₂ = c₁ .before .before .before .before in
+    let c₃ = c₂ .before .before .before in
+    let c₄ = c₃ .before .before .before .before in
+    let c₅ = c₄ .before .before .before in (
+      push-slots _ _ (c₂ .push .ensures) (c₁ .operator .given .1)
+          (push-slots _ _ (c₄ .push-older-node .ensures) (c₃ .item .given .1) (c₅ .pre .0)),
+      c₅ .pre .3,
+    )
 
 returns-3 : tie.Need-returns-3
 returns-3 c = search (needs, binary-pushed)
@@ -33,15 +37,12 @@ push-binary-spec =
     (λ c. search needs)
     (λ c. search needs)
     (λ c. search needs)
-    (λ c. search needs)
     returns
     push-requires
     (λ c. search needs)
     (λ c. search needs)
     (λ c. search needs)
-    (λ c. search needs)
     returns-2
     push-requires-2
-    (λ c. search needs)
     (λ c. search needs)
     returns-3)

@@ -1,5 +1,5 @@
 -- `penne_c::penne_parse_expression` meets its contract, by whether there were enough places.
-use Rattle.penne_c.proofs.Laws.{too-short, replied}
+use Rattle.replies.proofs.Laws.{too-short, replied}
 use borrow.Author.Needs.{needs}
 use Rattle.penne_c.proofs.penne_parse_expression.Statement.{statement}
 use Rattle.penne_c.proofs.penne_parse_expression.Tie as tie

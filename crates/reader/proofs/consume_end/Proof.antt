@@ -33,7 +33,7 @@ use Rattle.rules.specs.Codes.Limit as Most
 use Rattle.rules.specs.Codes.BaseToken as BaseToken
 use Rattle.codes.specs.declared.TokenId.{TokenId}
 use Rattle.codes.proofs.TokenId.Laws as I′
-use Rattle.codes.specs.Answer.{Quiet}
+use Rattle.codes.specs.Words.{Quiet}
 use Rattle.tokens.specs.declared.Consumed.{Consumed}
 use Rattle.tokens.specs.Answer.{consumed as answer}
 use Rattle.reader.specs.declared.Tokens.{Tokens}

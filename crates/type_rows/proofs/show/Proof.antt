@@ -5,18 +5,14 @@ use borrow.Author.Needs.{needs}
 use Rattle.type_rows.proofs.show.Statement.{statement}
 use Rattle.type_rows.proofs.show.Tie as tie
 
-slice-aggregate-node-kinds : tie.Need-slice-aggregate-node-kinds
-slice-aggregate-node-kinds c = simp length-take (omega arith)
-
-slice-aggregate-node-loads : tie.Need-slice-aggregate-node-loads
-slice-aggregate-node-loads c = simp length-take (omega arith)
+slice-aggregate-node-words : tie.Need-slice-aggregate-node-words
+slice-aggregate-node-words c = simp length-take (omega arith)
 
 parse-type-requires : tie.Need-parse-type-requires
 parse-type-requires c κs = record {
   types = search needs;
   tokens = search needs;
   at = search needs;
-  loads = simp length-take;
   slots = simp length-take (omega arith);
   used = search needs;
 }
@@ -26,9 +22,7 @@ show-spec =
     tie.close
     (tie.spec
     (λ c. search needs)
-    slice-aggregate-node-kinds
-    (λ c. search needs)
-    slice-aggregate-node-loads
+    slice-aggregate-node-words
     parse-type-requires
     (λ c κs. search needs)
     (λ c. search needs)

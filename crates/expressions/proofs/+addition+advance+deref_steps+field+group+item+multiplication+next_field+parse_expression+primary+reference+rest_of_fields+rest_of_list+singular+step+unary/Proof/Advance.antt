@@ -30,7 +30,7 @@ returns-2 : (t : ℕ) → advance-lts.Need-returns-2 (calls t) (advance-at t) ad
 returns-2 t c = search (needs, advance-stopped)
 
 push-binary-requires : (t : ℕ) → advance-lts.Need-push-binary-requires (calls t) (advance-at t) advance.Post
-push-binary-requires t c κs = search (needs, advance-slots)
+push-binary-requires t c κs = (search (needs, advance-slots), search needs, search needs, search needs)
 
 returns-3 : (t : ℕ) → advance-lts.Need-returns-3 (calls t) (advance-at t) advance.Post
 returns-3 t c = search (needs, advance-read)
@@ -44,9 +44,7 @@ spec t =
     (λ c. search needs)
     (λ c. search needs)
     (λ c. search needs)
-    (λ c. search needs)
     (returns-2 t)
     (push-binary-requires t)
-    (λ c. search needs)
     (λ c. search needs)
     (returns-3 t)

@@ -3,7 +3,7 @@ use Prim.Native.Nat.{_≤_, ℕ, _-_}
 use borrow.Author.Needs.{needs}
 use lib.ListN.{length}
 use Rattle.nodes.specs.Answer.{past}
-use Rattle.codes.specs.Answer.{nodes, Sized}
+use Rattle.codes.specs.Words.{nodes, Sized}
 use Rattle.nodes.proofs.start_list.Reads as start-list-reads
 use Rattle.references.proofs.exceeded.Reads as exceeded-reads
 use Rattle.references.proofs.push_deref.Reads as push-deref-reads
@@ -29,16 +29,15 @@ calls t = (
 )
 
 abbrev Inv-loop : deref-steps-lts.InvT-loop
-Inv-loop kinds types node-kinds₀ node-loads₀ cursor count unused start depth name list₀ steps₀ place₀ used₀
-    node-kinds node-loads list steps place used =
-    (length node-kinds ≡ length node-kinds₀) × (length node-loads ≡ length node-loads₀) ×
-    Sized kinds types node-kinds node-loads place used × (past list ≤ used) × (steps ≤ Limit.ReferenceDepth) ×
-    Steps kinds types unused (start .0) depth (name .0) place₀ (nodes node-kinds₀ node-loads₀ used₀) steps list place
-    (nodes node-kinds node-loads used)
+Inv-loop kinds types node-words₀ cursor count unused start depth name list₀ steps₀ place₀ used₀
+    node-words list steps place used =
+    (length node-words ≡ length node-words₀) ×
+    Sized kinds types node-words place used × (past list ≤ used) × (steps ≤ Limit.ReferenceDepth) ×
+    Steps kinds types unused (start .0) depth (name .0) place₀ (nodes node-words₀ used₀) steps list place
+    (nodes node-words used)
 
 abbrev μ-loop : deref-steps-lts.MeasureT-loop
-μ-loop kinds types node-kinds₀ node-loads₀ cursor count unused start depth name list₀ steps₀ place₀ used₀ node-kinds
-    node-loads list steps place used =
+μ-loop kinds types node-words₀ cursor count unused start depth name list₀ steps₀ place₀ used₀ node-words list steps place used =
     Limit.ReferenceDepth - steps
 
 step-requires : (t : ℕ) →
@@ -47,7 +46,8 @@ step-requires t c κs = (search needs, (search needs, search needs))
 
 push-deref-requires : (t : ℕ) →
     deref-steps-lts.Need-push-deref-requires (calls t) (deref-steps-at t) deref-steps.Post Inv-loop μ-loop
-push-deref-requires t c κs = (search (needs, last-slots), search (needs, last-fits))
+push-deref-requires t c κs =
+    (search (needs, last-slots), search (needs, last-fits), search needs, search needs, search needs)
 
 returns : (t : ℕ) → deref-steps-lts.Need-returns (calls t) (deref-steps-at t) deref-steps.Post Inv-loop μ-loop
 returns t c = search (needs, steps-read)
@@ -61,7 +61,6 @@ loop-less t c = search needs
 loop-again : (t : ℕ) → deref-steps-lts.Need-loop-again (calls t) (deref-steps-at t) deref-steps.Post Inv-loop μ-loop
 loop-again t c = (
   search needs,
-  search needs,
   search (needs, more-sized),
   search (needs, more-fits),
   search needs,
@@ -72,7 +71,7 @@ returns-3 : (t : ℕ) → deref-steps-lts.Need-returns-3 (calls t) (deref-steps-
 returns-3 t c = search (needs, steps-exceeded)
 
 loop-holds : (t : ℕ) → deref-steps-lts.Need-loop-holds (calls t) (deref-steps-at t) deref-steps.Post Inv-loop μ-loop
-loop-holds t c = (refl, refl, search needs, search (needs, none-fits), search needs, search (needs, first-step))
+loop-holds t c = (refl, search needs, search (needs, none-fits), search needs, search (needs, first-step))
 
 pub spec : {M : Type 1} (t : ℕ) → deref-steps-lts.Closed (calls t) (deref-steps-at t) deref-steps.Post M
 spec t =
@@ -84,9 +83,7 @@ spec t =
     (λ c. search needs)
     (push-deref-requires t)
     (λ c. search needs)
-    (λ c. search needs)
     (returns t)
-    (λ c. search needs)
     (λ c. search needs)
     (λ c. search needs)
     (returns-2 t)
@@ -94,6 +91,5 @@ spec t =
     (loop-less t)
     (loop-again t)
     (λ c κs. search needs)
-    (λ c. search needs)
     (λ c. search needs)
     (returns-3 t)

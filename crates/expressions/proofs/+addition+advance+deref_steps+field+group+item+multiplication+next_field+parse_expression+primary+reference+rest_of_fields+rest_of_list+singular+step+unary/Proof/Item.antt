@@ -30,9 +30,9 @@ returns-2 t c = search (needs, item-stopped)
 
 finish-item-requires : (t : ℕ) → item-lts.Need-finish-item-requires (calls t) (item-at t) item.Post
 finish-item-requires t c κs =
-    let c₁ = c .before .before .before in
-    let c₂ = c₁ .before .before .before .before .before .before in
-    let c₃ = c₂ .before .before .before .before .before .before .before .before .before .before in
+    let c₁ = c .before .before in
+    let c₂ = c₁ .before .before .before .before in
+    let c₃ = c₂ .before .before .before .before .before .before .before .before in
     let (z, f, f', _) = c₃ .pre .1 in
     let g = c₂ .parse-expression .ensures in
     let q = c₁ .item .given .1 in
@@ -40,12 +40,12 @@ finish-item-requires t c κs =
 
 returns-3 : (t : ℕ) → item-lts.Need-returns-3 (calls t) (item-at t) item.Post
 returns-3 t c =
-    let c₁ = c .before .before .before .before in
-    let c₂ = c₁ .before .before .before .before in
-    let c₃ = c₂ .before .before .before .before .before .before in
-    let c₄ = c₃ .before .before .before in
+    let c₁ = c .before .before in
+    let c₂ = c₁ .before .before .before in
+    let c₃ = c₂ .before .before .before .before in
+    let c₄ = c₃ .before .before in
     let c₅ = c₄ .before .before in
-    let c₆ = c₅ .before .before .before .before .before in
+    let c₆ = c₅ .before .before .before .before in
     item-read _ _ _ _ _ (c₆ .args .list) (c₆ .args .items) (c₅ .consume-optional .ensures) (c₄ .if1 .left)
     (c₆ .pre .1 .3) (c₃ .parse-expression .ensures) (c₂ .item .given .1) (c₁ .finish-item .ensures)
 
@@ -58,9 +58,7 @@ spec t =
     (λ c. search needs)
     (λ c. search needs)
     (λ c. search needs)
-    (λ c. search needs)
     (returns-2 t)
     (finish-item-requires t)
-    (λ c. search needs)
     (λ c. search needs)
     (returns-3 t)

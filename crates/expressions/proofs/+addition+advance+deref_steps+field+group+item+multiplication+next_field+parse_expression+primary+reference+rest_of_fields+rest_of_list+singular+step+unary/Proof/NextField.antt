@@ -26,5 +26,4 @@ spec t =
     (returns t)
     (field-requires t)
     (λ c. search needs)
-    (λ c. search needs)
     (returns-2 t)

@@ -3,7 +3,7 @@ use borrow.Author.Needs.{needs}
 use Rattle.literals.proofs.parse_literal.Reads as parse-literal-reads
 use Rattle.openings.proofs.parse_opening.Reads as parse-opening-reads
 use Rattle.references.proofs.push_name.Reads as push-name-reads
-use Rattle.expressions.proofs.Bounds.{list-sized, fields-sized, reference-sized, group-sized, name-slots}
+use Rattle.expressions.proofs.Bounds.{list-sized, fields-sized, reference-sized, group-sized, name-slots, owner-fits, fields-fit, depth-fits, name-fits}
 use Rattle.expressions.proofs.Laws.{list-opened, fields-opened, reference-opened, name-opened, group-opened}
 use Rattle.expressions.proofs.Laws.{literal-opened, primary-refused}
 use Rattle.expressions.proofs.rest_of_fields.Reads as rest-of-fields
@@ -34,16 +34,17 @@ calls t = (
 
 rest-of-list-requires : (t : ℕ) →
     primary-lts.Need-rest-of-list-requires (calls t) (primary-at t) primary.Post
-rest-of-list-requires t c κs = (search needs, search (needs, list-sized))
+rest-of-list-requires t c κs = (search needs, (search (needs, list-sized), search (needs, owner-fits)))
 
 rest-of-fields-requires : (t : ℕ) → primary-lts.Need-rest-of-fields-requires (calls t) (primary-at t) primary.Post
-rest-of-fields-requires t c κs = (search needs, search (needs, fields-sized))
+rest-of-fields-requires t c κs = (search needs, (search (needs, fields-sized), search (needs, fields-fit)))
 
 reference-requires : (t : ℕ) → primary-lts.Need-reference-requires (calls t) (primary-at t) primary.Post
-reference-requires t c κs = (search needs, search (needs, reference-sized))
+reference-requires t c κs =
+    (search needs, (search (needs, reference-sized), search needs, search (needs, depth-fits), search (needs, name-fits)))
 
 push-name-requires : (t : ℕ) → primary-lts.Need-push-name-requires (calls t) (primary-at t) primary.Post
-push-name-requires t c κs = search (needs, name-slots)
+push-name-requires t c κs = (search (needs, name-slots), search needs)
 
 group-requires : (t : ℕ) → primary-lts.Need-group-requires (calls t) (primary-at t) primary.Post
 group-requires t c κs = (search needs, search (needs, group-sized))
@@ -87,21 +88,15 @@ spec t =
     (λ c κs. search needs)
     (λ c. search needs)
     (λ c. search needs)
-    (λ c. search needs)
     (returns t)
-    (λ c. search needs)
     (λ c. search needs)
     (returns-2 t)
     (λ c. search needs)
-    (λ c. search needs)
     (returns-3 t)
-    (λ c. search needs)
     (λ c. search needs)
     (returns-4 t)
     (λ c. search needs)
-    (λ c. search needs)
     (returns-5 t)
-    (λ c. search needs)
     (λ c. search needs)
     (returns-6 t)
     (returns-7 t)

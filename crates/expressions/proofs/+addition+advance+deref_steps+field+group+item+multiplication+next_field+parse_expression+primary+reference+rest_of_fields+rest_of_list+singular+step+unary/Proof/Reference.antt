@@ -1,6 +1,6 @@
 use Prim.Native.Nat.{ℕ}
 use borrow.Author.Needs.{needs}
-use Rattle.expressions.proofs.Bounds.{after-deref}
+use Rattle.expressions.proofs.Bounds.{after-deref, deref-fits}
 use Rattle.expressions.proofs.Laws.{reference-stopped, reference-alone, reference-advanced}
 use Rattle.expressions.proofs.advance.Reads as advance
 use Rattle.expressions.proofs.deref_steps.Reads as deref-steps
@@ -15,7 +15,7 @@ returns : (t : ℕ) → reference-lts.Need-returns (calls t) (reference-at t) re
 returns t c = search (needs, reference-stopped)
 
 advance-requires : (t : ℕ) → reference-lts.Need-advance-requires (calls t) (reference-at t) reference.Post
-advance-requires t c κs = (search needs, search (needs, after-deref))
+advance-requires t c κs = (search needs, (search (needs, after-deref), search (needs, deref-fits)))
 
 returns-2 : (t : ℕ) → reference-lts.Need-returns-2 (calls t) (reference-at t) reference.Post
 returns-2 t c = search (needs, reference-advanced)
@@ -30,12 +30,9 @@ spec t =
     (λ c. search needs)
     (λ c. search needs)
     (λ c. search needs)
-    (λ c. search needs)
     (returns t)
     (advance-requires t)
     (λ c. search needs)
-    (λ c. search needs)
     (returns-2 t)
-    (λ c. search needs)
     (λ c. search needs)
     (returns-3 t)

@@ -3,7 +3,7 @@ use Prim.Native.Nat.{_≤_, ℕ, _-_}
 use borrow.Author.Needs.{needs}
 use lib.ListN.{length}
 use Rattle.nodes.specs.Answer.{past}
-use Rattle.codes.specs.Answer.{nodes, Sized}
+use Rattle.codes.specs.Words.{nodes, Sized}
 use Rattle.rules.specs.Codes.BaseToken as BaseToken
 use Rattle.rules.specs.Expressions.{structural}
 use Rattle.lists.proofs.finish_fields.Reads as finish-fields-reads
@@ -26,16 +26,15 @@ calls t = (
 )
 
 abbrev Inv-loop : rest-of-fields-lts.InvT-loop
-Inv-loop kinds types node-kinds₀ node-loads₀ count unused name list₀ items₀ place₀ used₀ node-kinds
-    node-loads list items place used =
-    (length node-kinds ≡ length node-kinds₀) × (length node-loads ≡ length node-loads₀) ×
-    Sized kinds types node-kinds node-loads place used × (past list ≤ used) × (items ≤ used) ×
+Inv-loop kinds types node-words₀ count unused name list₀ items₀ place₀ used₀ node-words list items place used =
+    (length node-words ≡ length node-words₀) ×
+    Sized kinds types node-words place used × (past list ≤ used) × (items ≤ used) ×
     Items kinds types unused (structural (name .0)) BaseToken.BraceRight place₀
-    (nodes node-kinds₀ node-loads₀ used₀) list items place
-    (nodes node-kinds node-loads used)
+    (nodes node-words₀ used₀) list items place
+    (nodes node-words used)
 
 abbrev μ-loop : rest-of-fields-lts.MeasureT-loop
-μ-loop kinds types node-kinds₀ node-loads₀ count unused name list₀ items₀ place₀ used₀ node-kinds node-loads
+μ-loop kinds types node-words₀ count unused name list₀ items₀ place₀ used₀ node-words
     list items place used =
     length kinds - place
 
@@ -51,7 +50,6 @@ loop-again : (t : ℕ) →
     rest-of-fields-lts.Need-loop-again (calls t) (rest-of-fields-at t) rest-of-fields.Post Inv-loop μ-loop
 loop-again t c = (
   search needs,
-  search needs,
   search (needs, turn-sized),
   search (needs, turn-fits),
   search (needs, turn-counts),
@@ -61,15 +59,16 @@ loop-again t c = (
 finish-fields-requires : (t : ℕ) →
     rest-of-fields-lts.Need-finish-fields-requires (calls t) (rest-of-fields-at t) rest-of-fields.Post Inv-loop μ-loop
 finish-fields-requires t c κs =
-    let c₁ = c .before .before .before in
-    let c₂ = c₁ .before .before .before .before .before .before in
-    let c₃ = c₂ .before .before .before in
-    let c₄ = c₃ .before .before .before .before .before .before in
+    let c₁ = c .before .before in
+    let c₂ = c₁ .before .before .before .before in
+    let c₃ = c₂ .before .before in
+    let c₄ = c₃ .before .before .before .before .before in
     let i = c₃ .loop .inv in (
-      list-slots _ _ _ (structural (c₄ .args .name .0)) _ _ _ _ _ _ (i .5) (c₂ .next-field .ensures) (i .2) (i .3)
-          (i .4)
+      list-slots _ _ _ (structural (c₄ .args .name .0)) _ _ _ _ _ _ (i .4) (c₂ .next-field .ensures) (i .1) (i .2)
+          (i .3)
           (c₁ .whole .given .1),
       search (needs, list-fits),
+      search needs,
     )
 
 returns : (t : ℕ) →
@@ -82,7 +81,7 @@ returns-2 t c = search (needs, list-refused)
 
 loop-holds : (t : ℕ) →
     rest-of-fields-lts.Need-loop-holds (calls t) (rest-of-fields-at t) rest-of-fields.Post Inv-loop μ-loop
-loop-holds t c = (refl, refl, search needs, search (needs, none-fits), search needs, search (needs, first-item))
+loop-holds t c = (refl, search needs, search (needs, none-fits), search needs, search (needs, first-item))
 
 pub spec : {M : Type 1} (t : ℕ) → rest-of-fields-lts.Closed (calls t) (rest-of-fields-at t) rest-of-fields.Post M
 spec t =
@@ -96,9 +95,7 @@ spec t =
     (λ c. search needs)
     (finish-fields-requires t)
     (λ c. search needs)
-    (λ c. search needs)
     (returns t)
-    (λ c. search needs)
     (λ c. search needs)
     (λ c. search needs)
     (returns-2 t)

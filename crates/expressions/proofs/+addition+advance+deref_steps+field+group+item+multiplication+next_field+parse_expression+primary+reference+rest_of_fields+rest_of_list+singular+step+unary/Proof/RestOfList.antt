@@ -3,13 +3,13 @@ use Prim.Native.Nat.{_≤_, ℕ, _-_}
 use borrow.Author.Needs.{needs}
 use lib.ListN.{length}
 use Rattle.nodes.specs.Answer.{past}
-use Rattle.codes.specs.Answer.{nodes, Sized}
+use Rattle.codes.specs.Words.{nodes, Sized}
 use Rattle.lists.specs.Answer.{ownerOf}
 use Rattle.lists.proofs.closing_of.Reads as closing-of-reads
 use Rattle.lists.proofs.finish_list.Reads as finish-list-reads
 use Rattle.nodes.proofs.start_list.Reads as start-list-reads
 use Rattle.expressions.proofs.Items.{none-fits, not-brace, Items, first-item, list-refused, list-read}
-use Rattle.expressions.proofs.Items.{list-slots, list-fits, turn-sized, turn-fits, turn-counts, turn-less, next-item}
+use Rattle.expressions.proofs.Items.{list-slots, list-fits, list-load, turn-sized, turn-fits, turn-counts, turn-less, next-item}
 use Rattle.expressions.proofs.rest_of_list.Reads as rest-of-list
 use Rattle.expressions.proofs.item.Reads as item
 use Rattle.expressions.proofs.+addition+advance+deref_steps+field+group+item+multiplication+next_field+parse_expression+primary+reference+rest_of_fields+rest_of_list+singular+step+unary.Lts-rest_of_list as rest-of-list-lts
@@ -28,15 +28,14 @@ calls t = (
 )
 
 abbrev Inv-loop : rest-of-list-lts.InvT-loop
-Inv-loop kinds types node-kinds₀ node-loads₀ count unused owner closing list₀ items₀ place₀ used₀ node-kinds
-    node-loads list items place used =
-    (length node-kinds ≡ length node-kinds₀) × (length node-loads ≡ length node-loads₀) ×
-    Sized kinds types node-kinds node-loads place used × (past list ≤ used) × (items ≤ used) ×
-    Items kinds types unused (ownerOf owner) closing place₀ (nodes node-kinds₀ node-loads₀ used₀) list items place
-    (nodes node-kinds node-loads used)
+Inv-loop kinds types node-words₀ count unused owner closing list₀ items₀ place₀ used₀ node-words list items place used =
+    (length node-words ≡ length node-words₀) ×
+    Sized kinds types node-words place used × (past list ≤ used) × (items ≤ used) ×
+    Items kinds types unused (ownerOf owner) closing place₀ (nodes node-words₀ used₀) list items place
+    (nodes node-words used)
 
 abbrev μ-loop : rest-of-list-lts.MeasureT-loop
-μ-loop kinds types node-kinds₀ node-loads₀ count unused owner closing list₀ items₀ place₀ used₀ node-kinds node-loads
+μ-loop kinds types node-words₀ count unused owner closing list₀ items₀ place₀ used₀ node-words
     list items place used =
     length kinds - place
 
@@ -50,7 +49,6 @@ loop-less t c = search (needs, turn-less)
 loop-again : (t : ℕ) → rest-of-list-lts.Need-loop-again (calls t) (rest-of-list-at t) rest-of-list.Post Inv-loop μ-loop
 loop-again t c = (
   search needs,
-  search needs,
   search (needs, turn-sized),
   search (needs, turn-fits),
   search (needs, turn-counts),
@@ -60,14 +58,16 @@ loop-again t c = (
 finish-list-requires : (t : ℕ) →
     rest-of-list-lts.Need-finish-list-requires (calls t) (rest-of-list-at t) rest-of-list.Post Inv-loop μ-loop
 finish-list-requires t c κs =
-    let c₁ = c .before .before .before in
-    let c₂ = c₁ .before .before .before .before .before .before in
-    let c₃ = c₂ .before .before .before in
-    let c₄ = c₃ .before .before .before .before .before .before .before in
+    let c₁ = c .before .before in
+    let c₂ = c₁ .before .before .before .before in
+    let c₃ = c₂ .before .before in
+    let c₄ = c₃ .before .before .before .before .before .before in
     let i = c₃ .loop .inv in (
-      list-slots _ _ _ (ownerOf (c₄ .args .owner)) _ _ _ _ _ _ (i .5) (c₂ .item .ensures) (i .2) (i .3) (i .4)
+      list-slots _ _ _ (ownerOf (c₄ .args .owner)) _ _ _ _ _ _ (i .4) (c₂ .item .ensures) (i .1) (i .2) (i .3)
           (c₁ .whole .given .1),
       search (needs, list-fits),
+      search needs,
+      search (needs, list-load),
     )
 
 returns : (t : ℕ) → rest-of-list-lts.Need-returns (calls t) (rest-of-list-at t) rest-of-list.Post Inv-loop μ-loop
@@ -77,7 +77,7 @@ returns-2 : (t : ℕ) → rest-of-list-lts.Need-returns-2 (calls t) (rest-of-lis
 returns-2 t c = search (needs, list-refused)
 
 loop-holds : (t : ℕ) → rest-of-list-lts.Need-loop-holds (calls t) (rest-of-list-at t) rest-of-list.Post Inv-loop μ-loop
-loop-holds t c = (refl, refl, search needs, search (needs, none-fits), search needs, search (needs, first-item))
+loop-holds t c = (refl, search needs, search (needs, none-fits), search needs, search (needs, first-item))
 
 pub spec : {M : Type 1} (t : ℕ) → rest-of-list-lts.Closed (calls t) (rest-of-list-at t) rest-of-list.Post M
 spec t =
@@ -92,9 +92,7 @@ spec t =
     (λ c. search needs)
     (finish-list-requires t)
     (λ c. search needs)
-    (λ c. search needs)
     (returns t)
-    (λ c. search needs)
     (λ c. search needs)
     (λ c. search needs)
     (returns-2 t)

@@ -32,11 +32,11 @@ returns t c = search (needs, element-stopped)
 
 finish-element-requires : (t : ℕ) → step-lts.Need-finish-element-requires (calls t) (step-at t) step.Post
 finish-element-requires t c κs =
-    let c₁ = c .before .before .before in
-    let c₂ = c₁ .before .before .before .before .before .before in
-    let c₃ = c₂ .before .before .before in
+    let c₁ = c .before .before in
+    let c₂ = c₁ .before .before .before .before in
+    let c₃ = c₂ .before .before in
     let c₄ = c₃ .before in
-    let c₅ = c₄ .before .before .before .before .before in
+    let c₅ = c₄ .before .before .before .before in
     let p = c₅ .pre .1 in
     let z = past-token _ _ (c₄ .peek .ensures) (c₃ .match .keys1) refl (p .0) in
     let g = c₂ .parse-expression .ensures in
@@ -61,14 +61,11 @@ spec t =
     (λ c. search needs)
     (λ c. search needs)
     (λ c. search needs)
-    (λ c. search needs)
     (returns t)
     (finish-element-requires t)
     (λ c κs. search needs)
     (λ c. search needs)
-    (λ c. search needs)
     (returns-2 t)
-    (λ c. search needs)
     (λ c. search needs)
     (returns-3 t)
     (returns-4 t)

@@ -10,9 +10,6 @@ enum-known-reply c = search needs
 enum-known-reply-2 : tie.Need-enum-known-reply-2
 enum-known-reply-2 c = search needs
 
-wide-requires : tie.Need-wide-requires
-wide-requires c κs = search needs
-
 returns : tie.Need-returns
 returns c = search (needs, accepted)
 
@@ -21,4 +18,4 @@ returns-2 c = search (needs, refused)
 
 pub of-parsed-spec : {M : Type 1} → statement M
 of-parsed-spec =
-    tie.close (tie.spec enum-known-reply enum-known-reply-2 wide-requires returns returns-2)
+    tie.close (tie.spec enum-known-reply enum-known-reply-2 returns returns-2)

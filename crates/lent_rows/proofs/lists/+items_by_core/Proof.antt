@@ -12,14 +12,14 @@ use Rattle.nodes.proofs.push_end_of_list.Reads as push-end-of-list-reads
 use Rattle.lent_rows.proofs.lists.+items_by_core.{statement}
 use Rattle.lent_rows.proofs.lists.+items_by_core.Tie.{close}
 
-abbrev μ-items-by-core : Measures 2 items-by-core-kinds.ps ℕ
-μ-items-by-core κs a = a .1 .1 .1 .1 .1 .1 .0
+abbrev μ-items-by-core : Measures 1 items-by-core-kinds.ps ℕ
+μ-items-by-core κs a = a .1 .1 .1 .1 .1 .0
 
-abbrev items-by-core-at : ℕ → In 2 items-by-core-kinds.ps
-items-by-core-at t = and 2 items-by-core-kinds.ps (is 2 items-by-core-kinds.ps μ-items-by-core t) items-by-core.Pre
+abbrev items-by-core-at : ℕ → In 1 items-by-core-kinds.ps
+items-by-core-at t = and 1 items-by-core-kinds.ps (is 1 items-by-core-kinds.ps μ-items-by-core t) items-by-core.Pre
 
-abbrev items-by-core-below : ℕ → In 2 items-by-core-kinds.ps
-items-by-core-below t = and 2 items-by-core-kinds.ps (falls 2 items-by-core-kinds.ps _<_ μ-items-by-core t)
+abbrev items-by-core-below : ℕ → In 1 items-by-core-kinds.ps
+items-by-core-below t = and 1 items-by-core-kinds.ps (falls 1 items-by-core-kinds.ps _<_ μ-items-by-core t)
     items-by-core.Pre
 
 abbrev items-by-core-calls : ℕ → items-by-core-lts.Claims
@@ -54,17 +54,14 @@ pub +items-by-core-spec : {M : Type 1} → statement M
     items-by-core-lts.spec (items-by-core-calls t) (items-by-core-at t) items-by-core.Post
     (λ c κs. search needs)
     (λ c. search needs)
-    (λ c. search needs)
     (items-by-core-returns t)
-    (λ c κs. search needs)
+    (λ c κs. (search needs, search needs))
     (λ c. search needs)
     (λ c. search needs)
     (λ c. search needs)
     (items-by-core-items-by-core-requires t)
     (λ c. search needs)
     (λ c. search needs)
-    (λ c. search needs)
     (items-by-core-returns-2 t)
-    (λ c. search needs)
     (λ c. search needs)
     (items-by-core-returns-3 t)

@@ -12,15 +12,15 @@ use Rattle.nodes.proofs.push_end_of_list.Reads as push-end-of-list-reads
 use Rattle.lent_rows.proofs.lists.+items_by_record.{statement}
 use Rattle.lent_rows.proofs.lists.+items_by_record.Tie.{close}
 
-abbrev μ-items-by-record : Measures 2 items-by-record-kinds.ps ℕ
-μ-items-by-record κs a = a .1 .1 .1 .1 .1 .0
+abbrev μ-items-by-record : Measures 1 items-by-record-kinds.ps ℕ
+μ-items-by-record κs a = a .1 .1 .1 .1 .0
 
-abbrev items-by-record-at : ℕ → In 2 items-by-record-kinds.ps
-items-by-record-at t = and 2 items-by-record-kinds.ps (is 2 items-by-record-kinds.ps μ-items-by-record t)
+abbrev items-by-record-at : ℕ → In 1 items-by-record-kinds.ps
+items-by-record-at t = and 1 items-by-record-kinds.ps (is 1 items-by-record-kinds.ps μ-items-by-record t)
     items-by-record.Pre
 
-abbrev items-by-record-below : ℕ → In 2 items-by-record-kinds.ps
-items-by-record-below t = and 2 items-by-record-kinds.ps (falls 2 items-by-record-kinds.ps _<_ μ-items-by-record t)
+abbrev items-by-record-below : ℕ → In 1 items-by-record-kinds.ps
+items-by-record-below t = and 1 items-by-record-kinds.ps (falls 1 items-by-record-kinds.ps _<_ μ-items-by-record t)
     items-by-record.Pre
 
 abbrev items-by-record-calls : ℕ → items-by-record-lts.Claims
@@ -55,17 +55,14 @@ pub +items-by-record-spec : {M : Type 1} → statement M
     items-by-record-lts.spec (items-by-record-calls t) (items-by-record-at t) items-by-record.Post
     (λ c κs. search needs)
     (λ c. search needs)
-    (λ c. search needs)
     (items-by-record-returns t)
-    (λ c κs. search needs)
+    (λ c κs. (search needs, search needs))
     (λ c. search needs)
     (λ c. search needs)
     (λ c. search needs)
     (items-by-record-items-by-record-requires t)
     (λ c. search needs)
     (λ c. search needs)
-    (λ c. search needs)
     (items-by-record-returns-2 t)
-    (λ c. search needs)
     (λ c. search needs)
     (items-by-record-returns-3 t)

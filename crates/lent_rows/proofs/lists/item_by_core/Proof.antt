@@ -6,7 +6,7 @@ use Rattle.lent_rows.proofs.lists.item_by_core.Statement.{statement}
 use Rattle.lent_rows.proofs.lists.item_by_core.Tie as tie
 
 push-requires : tie.Need-push-requires
-push-requires c κs = search needs
+push-requires c κs = (search needs, search needs)
 
 enum-known-content : tie.Need-enum-known-content
 enum-known-content c = search needs
@@ -17,20 +17,14 @@ enum-told c = search needs
 same-length : tie.Need-same-length
 same-length c = search needs
 
-same-length-2 : tie.Need-same-length-2
-same-length-2 c = search needs
-
 returns : tie.Need-returns
 returns c = search (needs, content-refused)
 
 push-list-item-requires : tie.Need-push-list-item-requires
 push-list-item-requires c κs = (search (needs, core-slots), search (needs, core-last))
 
-same-length-3 : tie.Need-same-length-3
-same-length-3 c = search needs
-
-same-length-4 : tie.Need-same-length-4
-same-length-4 c = search needs
+same-length-2 : tie.Need-same-length-2
+same-length-2 c = search needs
 
 returns-2 : tie.Need-returns-2
 returns-2 c = search (needs, content-read)
@@ -43,9 +37,7 @@ item-by-core-spec =
     enum-known-content
     enum-told
     same-length
-    same-length-2
     returns
     push-list-item-requires
-    same-length-3
-    same-length-4
+    same-length-2
     returns-2)

@@ -5,7 +5,7 @@ use Rattle.lent_rows.proofs.lists.item_by_record.Statement.{statement}
 use Rattle.lent_rows.proofs.lists.item_by_record.Tie as tie
 
 append-to-requires : tie.Need-append-to-requires
-append-to-requires c κs = search needs
+append-to-requires c κs = (search needs, search needs)
 
 enum-known-reply : tie.Need-enum-known-reply
 enum-known-reply c = search needs
@@ -16,20 +16,14 @@ enum-told c = search needs
 same-length : tie.Need-same-length
 same-length c = search needs
 
-same-length-2 : tie.Need-same-length-2
-same-length-2 c = search needs
-
 returns : tie.Need-returns
 returns c = (search (needs, record-refused), search (needs, no-record))
 
 patch-in-requires : tie.Need-patch-in-requires
 patch-in-requires c κs = (search (needs, record-slots), search (needs, record-last))
 
-same-length-3 : tie.Need-same-length-3
-same-length-3 c = search needs
-
-same-length-4 : tie.Need-same-length-4
-same-length-4 c = search needs
+same-length-2 : tie.Need-same-length-2
+same-length-2 c = search needs
 
 returns-2 : tie.Need-returns-2
 returns-2 c = (search (needs, record-read), search (needs, records))
@@ -42,9 +36,7 @@ item-by-record-spec =
     enum-known-reply
     enum-told
     same-length
-    same-length-2
     returns
     patch-in-requires
-    same-length-3
-    same-length-4
+    same-length-2
     returns-2)

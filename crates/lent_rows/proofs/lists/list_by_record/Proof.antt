@@ -13,13 +13,10 @@ items-by-record-requires c κs = (search (needs, none-fits), search needs)
 same-length : tie.Need-same-length
 same-length c = search needs
 
-same-length-2 : tie.Need-same-length-2
-same-length-2 c = search needs
-
 returns : tie.Need-returns
 returns c = search (needs, from-none)
 
 pub list-by-record-spec : {M : Type 1} → statement M
 list-by-record-spec =
     tie.close
-    (tie.spec start-list-requires items-by-record-requires same-length same-length-2 returns)
+    (tie.spec start-list-requires items-by-record-requires same-length returns)

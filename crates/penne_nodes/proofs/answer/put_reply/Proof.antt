@@ -46,7 +46,6 @@ put-reply-spec =
     put-two-requires
     put-requires
     (λ c. search needs)
-    (λ c. search needs)
     (λ c κs. search needs)
     put-two-requires-2
     put-two-requires-3
