@@ -8,15 +8,44 @@ import penne_codes as codes
 from places import ROOT
 
 
+SOURCES = os.path.join(ROOT, "crates/codes/src")
+SPECIFICATIONS = os.path.join(ROOT, "crates/rules/specs/Codes")
+
+
+def text(folder, name, comment):
+    """The text of a file without its comments."""
+    with open(os.path.join(folder, name), encoding="utf-8") as file:
+        return re.sub(comment + ".*", "", file.read())
+
+
 def source(name):
-    with open(os.path.join(ROOT, "crates/codes/src", name), encoding="utf-8") as file:
+    with open(os.path.join(SOURCES, name), encoding="utf-8") as file:
         return file.read()
 
 
 def constants(name):
-    """The constants of a file, each with its number."""
-    found = re.findall(r"pub const (\w+): u(?:8|32) = (\d+);", source(name))
+    """The constants of a file, each with its number; one of another form than these have is an error."""
+    code = text(SOURCES, name, "//")
+    found = re.findall(r"pub const (\w+): u(?:8|32) = (\d+);", code)
+    if len(found) != len(re.findall(r"\bconst\b", code)):
+        raise ValueError(f"{name} has a constant that is not read")
     return [(constant, int(number)) for constant, number in found]
+
+
+def definitions(name, folder=SPECIFICATIONS):
+    """The same of a specification: its numbers."""
+    code = text(folder, name, "--")
+    found = re.findall(r"^(\w+) = (\d+)$", code, re.MULTILINE)
+    if [constant for constant, _ in found] != re.findall(r"^abbrev pub (\w+) : ℕ$", code, re.MULTILINE):
+        raise ValueError(f"{name} has a definition that is not read")
+    return [(constant, int(number)) for constant, number in found]
+
+
+def specification(name):
+    """The specification of a source file, or None for one without constants and for the codes of parts."""
+    names = {"lib.rt": None, "part_code.rt": None, "refusal_number.rt": "Refusal.antt"}
+    camel = "".join(word.capitalize() for word in name.removesuffix(".rt").split("_"))
+    return names.get(name, camel + ".antt")
 
 
 def parts_table():
@@ -54,14 +83,17 @@ class Codes(unittest.TestCase):
         self.assertEqual(constants("refusal_number.rt"), refusals)
 
     def test_the_specifications_have_the_same(self):
-        """Names and numbers of crates/rules/specs/Codes, which has one number more that no reply has."""
-        folder = os.path.join(ROOT, "crates/rules/specs/Codes")
-        for file in sorted(os.listdir(folder)):
-            name = re.sub(r"(?<=[a-z])(?=[A-Z])", "_", file.removesuffix(".antt")).lower()
-            with open(os.path.join(folder, file), encoding="utf-8") as specification:
-                found = re.findall(r"^(\w+) = (\d+)$", specification.read(), re.MULTILINE)
-            found = [(constant, int(number)) for constant, number in found if constant != "OutOfRounds"]
-            self.assertEqual(found, constants({"refusal": "refusal_number"}.get(name, name) + ".rt"), file)
+        """Names and numbers of crates/rules/specs/Codes, file by file; one number more is that of no reply."""
+        files = {name: specification(name) for name in os.listdir(SOURCES)}
+        self.assertEqual(sorted(filter(None, files.values())), sorted(os.listdir(SPECIFICATIONS)))
+        for name, file in files.items():
+            if file is not None:
+                no_reply = [("OutOfRounds", 0)] if file == "Refusal.antt" else []
+                self.assertEqual(definitions(file), no_reply + constants(name), file)
+
+    def test_the_code_of_a_linked_part_is_specified(self):
+        parts = text(os.path.join(ROOT, "crates/codes/specs"), "Parts.antt", "--")
+        self.assertEqual(re.findall(r"^Linked = (\d+)$", parts, re.MULTILINE), [str(codes.LINKED)])
 
     def test_linked(self):
         self.assertEqual(constants("part_code.rt"), [("Linked", codes.LINKED)])

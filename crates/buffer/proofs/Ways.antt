@@ -1,7 +1,7 @@
--- append and patch, and the functions with the record by value, as `Held.antt` has what they differ in.
+-- append and append_item, and the functions with the record by value, as `Held.antt` has what they differ in.
 use Prim.Native.Nat.{_≤_}
 use mir.Syntax.{w8, w32}
-use Rattle.rules.specs.Codes.Limit as Most
+use Rattle.rules.specs.Codes.Limit as Limits
 use Rattle.walks.proofs.Extra.{none, two}
 use Rattle.walks.proofs.Plain.{Plain, Pair, number, struct, enum}
 use denote.Struct.Laws as LL
@@ -9,12 +9,12 @@ use Rattle.codes.proofs.Parsed as A
 use Rattle.codes.proofs.Parsed.Laws as A′
 use Rattle.nodes.proofs.Listed as L
 use Rattle.nodes.proofs.Listed.Laws as L′
-use Rattle.nodes.specs.Answer.{Slots, past}
-use Rattle.buffer.specs.Answer.{Appends, Patches}
+use Rattle.nodes.specs.Answer.{WithinSlots, past}
+use Rattle.buffer.specs.Answer.{Appends, AppendsItem}
 use Rattle.buffer.proofs.Appended as X
 use Rattle.buffer.proofs.Appended.Laws as X′
-use Rattle.buffer.proofs.Patched as Y
-use Rattle.buffer.proofs.Patched.Laws as Y′
+use Rattle.buffer.proofs.AppendedItem as Y
+use Rattle.buffer.proofs.AppendedItem.Laws as Y′
 use Rattle.buffer.proofs.Held.{Way, B}
 
 abbrev parsed : Plain
@@ -38,8 +38,8 @@ appended = record {
   makes = struct X.the-type X′.the-laws X′.the-plain X′.the-copy .makes;
 }
 
-abbrev patched : Pair listed B
-patched = record {
+abbrev appended-item : Pair listed B
+appended-item = record {
   name = Y.the-type .name;
   row = Y.the-row;
   fst = λ s. s .reply;
@@ -58,14 +58,14 @@ abbrev pub appending : Way (two (number w8) (number w32))
 appending = record {
   answer = parsed;
   step = appended;
-  Asks = λ b ws x. Slots ws (b .count) × (x .1 ≤ Most.Load);
+  Asks = λ b ws x. WithinSlots ws (b .count) × (x .1 ≤ Limits.Load);
   Gives = λ c b ws x r b′ ws′. Appends (c .0) b ws (x .0) (x .1) r b′ ws′;
 }
 
-abbrev pub patching : Way none
-patching = record {
+abbrev pub appending-item : Way none
+appending-item = record {
   answer = listed;
-  step = patched;
-  Asks = λ b ws x. Slots ws (b .count) × (past (b .list) ≤ b .count);
-  Gives = λ c b ws x r b′ ws′. Patches (c .0) b ws r b′ ws′;
+  step = appended-item;
+  Asks = λ b ws x. WithinSlots ws (b .count) × (past (b .list) ≤ b .count);
+  Gives = λ c b ws x r b′ ws′. AppendsItem (c .0) b ws r b′ ws′;
 }

@@ -1,4 +1,4 @@
--- What append and patch answer, and what they leave in the record and in the words: by the definitions of crate
+-- What append and append_item answer, and what they leave in the record and in the words: by the definitions of crate
 -- nodes.
 use Prim.Native.Nat.{ℕ}
 use mathlib.Core.List.{List}
@@ -28,6 +28,6 @@ module _ (c : ℕ) (b : ParseBuffer) (ws : List ℕ) where
     pub node : Gives (append kind load) c (nodes ws (b .count)) r ws′
     pub buffer : b′ ≡ counted b r
 
-  pub record Patches (r : Listed) (b′ : ParseBuffer) (ws′ : List ℕ) : Type 0 where
+  pub record AppendsItem (r : Listed) (b′ : ParseBuffer) (ws′ : List ℕ) : Type 0 where
     pub item : As listed (pushListItem (ends (b .list))) c (nodes ws (b .count)) r ws′
     pub buffer : b′ ≡ relisted b r

@@ -1,11 +1,11 @@
-// The node count and the open list in one record, which is lent to append and patch, after the Rust's &mut ParseBuffer.
-// Each calls a function with the record by value, above the function of crate nodes, and stores what that leaves. A
-// caller that has the record by value uses the functions at the end.
+// The node count and the open list in one record, which is lent to append and append_item, after the Rust's &mut
+// ParseBuffer. Each calls a function with the record by value, above the function of crate nodes, and stores what that
+// leaves. A caller that has the record by value uses the functions at the end.
 ghost use mathlib.Core.Path.{_≡_};
 ghost use Prim.Native.Nat.{_≤_};
-ghost use Rattle.rules.specs.Codes.Limit as Most;
-ghost use Rattle.nodes.specs.Answer.{Slots, past};
-ghost use Rattle.buffer.specs.Answer.{counted, relisted, Appends, Patches};
+ghost use Rattle.rules.specs.Codes.Limit as Limits;
+ghost use Rattle.nodes.specs.Answer.{WithinSlots, past};
+ghost use Rattle.buffer.specs.Answer.{counted, relisted, Appends, AppendsItem};
 use codes::Parsed;
 use codes::TokenId;
 use nodes::ActiveList;
@@ -24,7 +24,7 @@ pub struct Appended {
 }
 
 // What is answered for an item, and the record then.
-pub struct Patched {
+pub struct AppendedItem {
     pub reply: Listed,
     pub buffer: ParseBuffer,
 }
@@ -72,7 +72,7 @@ fn push(
     kind: u8,
     load: u32,
 ) -> Appended
-    requires { ⌜ Slots (now «node_words») (buffer .count) × (load ≤ Most.Load) ⌝ }
+    requires { ⌜ WithinSlots (now «node_words») (buffer .count) × (load ≤ Limits.Load) ⌝ }
     ensures { λ r. ⌜ Appends (cursor .0) buffer (now («node_words» .entry)) kind load (r .reply)
         (r .buffer) (now («node_words» .exit)) ⌝ }
 {
@@ -85,15 +85,15 @@ fn push(
 }
 
 // An item is appended after its content, unfinished, and the one before it is patched, with the record by value.
-fn push_item(node_words: &mut [u32], cursor: TokenId, buffer: ParseBuffer) -> Patched
-    requires { ⌜ Slots (now «node_words») (buffer .count) × (past (buffer .list) ≤ buffer .count) ⌝ }
-    ensures { λ r. ⌜ Patches (cursor .0) buffer (now («node_words» .entry)) (r .reply) (r .buffer)
+fn push_item(node_words: &mut [u32], cursor: TokenId, buffer: ParseBuffer) -> AppendedItem
+    requires { ⌜ WithinSlots (now «node_words») (buffer .count) × (past (buffer .list) ≤ buffer .count) ⌝ }
+    ensures { λ r. ⌜ AppendsItem (cursor .0) buffer (now («node_words» .entry)) (r .reply) (r .buffer)
         (now («node_words» .exit)) ⌝ }
 {
     let open = buffer.list;
     let reply = nodes::push_list_item(node_words, cursor, buffer.count, open);
     let after = after_item(buffer, reply);
-    Patched {
+    AppendedItem {
         reply,
         buffer: after,
     }
@@ -107,7 +107,7 @@ pub fn append(
     kind: u8,
     load: u32,
 ) -> Parsed
-    requires { ⌜ Slots (now «node_words») (now buffer .count) × (load ≤ Most.Load) ⌝ }
+    requires { ⌜ WithinSlots (now «node_words») (now buffer .count) × (load ≤ Limits.Load) ⌝ }
     ensures { λ r. ⌜ Appends (cursor .0) (now (buffer .entry)) (now («node_words» .entry)) kind load r
         (now (buffer .exit)) (now («node_words» .exit)) ⌝ }
 {
@@ -117,14 +117,14 @@ pub fn append(
 }
 
 // An item is appended after its content, unfinished, and the one before it is patched.
-pub fn patch(buffer: &mut ParseBuffer, node_words: &mut [u32], cursor: TokenId) -> Listed
-    requires { ⌜ Slots (now «node_words») (now buffer .count) × (past (now buffer .list) ≤ now buffer .count) ⌝ }
-    ensures { λ r. ⌜ Patches (cursor .0) (now (buffer .entry)) (now («node_words» .entry)) r (now (buffer .exit))
+pub fn append_item(buffer: &mut ParseBuffer, node_words: &mut [u32], cursor: TokenId) -> Listed
+    requires { ⌜ WithinSlots (now «node_words») (now buffer .count) × (past (now buffer .list) ≤ now buffer .count) ⌝ }
+    ensures { λ r. ⌜ AppendsItem (cursor .0) (now (buffer .entry)) (now («node_words» .entry)) r (now (buffer .exit))
         (now («node_words» .exit)) ⌝ }
 {
-    let patched = push_item(node_words, cursor, *buffer);
-    *buffer = patched.buffer;
-    patched.reply
+    let appended = push_item(node_words, cursor, *buffer);
+    *buffer = appended.buffer;
+    appended.reply
 }
 
 // A node is appended with a record that is passed and returned by value.
@@ -135,7 +135,7 @@ pub fn append_to(
     kind: u8,
     load: u32,
 ) -> Appended
-    requires { ⌜ Slots (now «node_words») (buffer .count) × (load ≤ Most.Load) ⌝ }
+    requires { ⌜ WithinSlots (now «node_words») (buffer .count) × (load ≤ Limits.Load) ⌝ }
     ensures { λ r. ⌜ Appends (cursor .0) buffer (now («node_words» .entry))
         kind load (r .reply) (r .buffer) (now («node_words» .exit)) ⌝ }
 {
@@ -148,14 +148,14 @@ pub fn append_to(
 }
 
 // An item is appended and the one before it patched, likewise.
-pub fn patch_in(node_words: &mut [u32], cursor: TokenId, buffer: ParseBuffer) -> Patched
-    requires { ⌜ Slots (now «node_words») (buffer .count) × (past (buffer .list) ≤ buffer .count) ⌝ }
-    ensures { λ r. ⌜ Patches (cursor .0) buffer (now («node_words» .entry))
+pub fn append_item_to(node_words: &mut [u32], cursor: TokenId, buffer: ParseBuffer) -> AppendedItem
+    requires { ⌜ WithinSlots (now «node_words») (buffer .count) × (past (buffer .list) ≤ buffer .count) ⌝ }
+    ensures { λ r. ⌜ AppendsItem (cursor .0) buffer (now («node_words» .entry))
         (r .reply) (r .buffer) (now («node_words» .exit)) ⌝ }
 {
     let mut lent = buffer;
-    let reply = patch(&mut lent, node_words, cursor);
-    Patched {
+    let reply = append_item(&mut lent, node_words, cursor);
+    AppendedItem {
         reply,
         buffer: lent,
     }

@@ -12,7 +12,7 @@ use Rattle.codes.specs.declared.TokenId.{TokenId}
 use Rattle.codes.specs.Answer.{row}
 use Rattle.codes.specs.Words.{Gives, Sized, nodes}
 use Rattle.codes.proofs.Onto.{Onto, split, came-read, sized-after, plain-parsed}
-use Rattle.nodes.specs.Answer.{Slots}
+use Rattle.nodes.specs.Answer.{WithinSlots}
 use Rattle.nodes.proofs.Bounds.{slots, append-root, append-last}
 use Rattle.tokens.specs.declared.Optional.{Optional}
 use Rattle.tokens.specs.Answer.{Optionally}
@@ -36,7 +36,7 @@ module _ {tk tv ns : List ℕ} {c k : ℕ} (u : ℕ) {r : Parsed} {ns' : List �
     (g : Gives (type words (row tk tv) u) c (nodes ns k) r ns') {n : NodeId} {p : TokenId} {j : ℕ}
     (q : r ≡ Node n p j) (z : Sized tk tv ns c k) where
   -- after a type
-  pub type-slots : Slots ns' j
+  pub type-slots : WithinSlots ns' j
   type-slots = slots (after-type u g q z)
 
   pub type-at : p .0 ≤ Limit.Tokens + 1

@@ -2,14 +2,14 @@
 // parser.rs: `cast`, `as` and `|:`.
 ghost use Prim.Native.Nat.{_+_, _≤_, _<_};
 ghost use lib.ListN.{length};
-ghost use Rattle.rules.specs.Codes.Limit as Most;
+ghost use Rattle.rules.specs.Codes.Limit as Limits;
 ghost use Rattle.rules.specs.Reading.{loop};
 ghost use Rattle.rules.specs.Words.{words};
 ghost use Rattle.rules.specs.Types.{type};
 ghost use Rattle.rules.specs.Expressions.{sizeOf, typeCast, coerced, singularEnd};
 ghost use Rattle.codes.specs.Answer.{row};
 ghost use Rattle.codes.specs.Words.{Gives, Sized, nodes};
-ghost use Rattle.nodes.specs.Answer.{Slots};
+ghost use Rattle.nodes.specs.Answer.{WithinSlots};
 ghost use Rattle.casts.specs.Answer.{Casting, bitCast};
 use codes::BaseToken;
 use codes::NodeId;
@@ -27,7 +27,7 @@ use types::parse_type;
 
 // A `cast` before a unary. One that is `bare`, an operand of a bitwise operator or of a shift, has none.
 pub fn optional_cast(kinds: &[u8], cursor: TokenId, bare: bool) -> Optional
-    requires { ⌜ cursor .0 ≤ Most.Tokens + 1 ⌝ }
+    requires { ⌜ cursor .0 ≤ Limits.Tokens + 1 ⌝ }
     ensures { λ r. ⌜ Casting (now (kinds .entry)) bare (cursor .0) r ⌝ }
 {
     if bare {
@@ -50,7 +50,7 @@ fn coerce(
     unused: u32,
     expression: NodeId,
 ) -> Parsed
-    requires { ⌜ Sized (now kinds) (now types) (now «node_words») (cursor .0) count × (expression .0 ≤ Most.Load) ⌝ }
+    requires { ⌜ Sized (now kinds) (now types) (now «node_words») (cursor .0) count × (expression .0 ≤ Limits.Load) ⌝ }
     ensures { λ r. ⌜ Gives (typeCast words (row (now (kinds .entry)) (now (types .entry))) (type words (row (now (kinds .entry)) (now (types .entry))) unused) (expression .0)) (cursor .0) (nodes (now («node_words» .entry)) count) r (now («node_words» .exit)) ⌝ }
 {
     let coerced = parse_type(kinds, types, node_words, cursor, count, unused);
@@ -83,7 +83,7 @@ fn parse_casts(
     unused: u32,
     expression: NodeId,
 ) -> Parsed
-    requires { ⌜ Sized (now kinds) (now types) (now «node_words») (cursor .0) count × (expression .0 ≤ Most.Load) ⌝ }
+    requires { ⌜ Sized (now kinds) (now types) (now «node_words») (cursor .0) count × (expression .0 ≤ Limits.Load) ⌝ }
     ensures { λ r. ⌜ Gives (loop (row (now (kinds .entry)) (now (types .entry))) (coerced words (row (now (kinds .entry)) (now (types .entry))) (type words (row (now (kinds .entry)) (now (types .entry))) unused)) (expression .0)) (cursor .0) (nodes (now («node_words» .entry)) count) r (now («node_words» .exit)) ⌝ }
 {
     let mut root = expression.0;
@@ -123,7 +123,7 @@ fn push_bit_cast(
     cast: bool,
     at: TokenId,
 ) -> Parsed
-    requires { ⌜ Slots (now «node_words») count × (at .0 ≤ Most.Load) ⌝ }
+    requires { ⌜ WithinSlots (now «node_words») count × (at .0 ≤ Limits.Load) ⌝ }
     ensures { λ r. ⌜ Gives (bitCast cast (at .0) (root .0)) (cursor .0) (nodes (now («node_words» .entry)) count) r (now («node_words» .exit)) ⌝ }
 {
     if cast {
@@ -149,7 +149,7 @@ pub fn finish_singular(
     cast: bool,
     at: TokenId,
 ) -> Parsed
-    requires { ⌜ Sized (now kinds) (now types) (now «node_words») (cursor .0) count × (expression .0 ≤ Most.Load) × (at .0 ≤ Most.Load) ⌝ }
+    requires { ⌜ Sized (now kinds) (now types) (now «node_words») (cursor .0) count × (expression .0 ≤ Limits.Load) × (at .0 ≤ Limits.Load) ⌝ }
     ensures { λ r. ⌜ Gives (singularEnd words (row (now (kinds .entry)) (now (types .entry))) (type words (row (now (kinds .entry)) (now (types .entry))) unused) cast (at .0) (expression .0)) (cursor .0) (nodes (now («node_words» .entry)) count) r (now («node_words» .exit)) ⌝ }
 {
     let node = push_bit_cast(node_words, cursor, count, expression, cast, at);

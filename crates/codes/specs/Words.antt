@@ -22,10 +22,20 @@ pub record As {A R : Type 0} (F : Form A R) (m : Rule Words A) (c : ℕ) (s : Wo
 abbrev pub Gives : Rule Words ℕ → ℕ → Words → Parsed → List ℕ → Type 0
 Gives = As parsed
 
--- The same of a reader that reads no value type: whatever these are.
-pub record Untyped {A R : Type 0} (F : Form A R) (m : Row → Rule Words A) (kinds : List ℕ) (c : ℕ) (s : Words) (r : R)
+-- The same of a reader that does not look at a part of the row: of each of these rows.
+pub record Across {X A R : Type 0} (rows : X → Row) (F : Form A R) (m : Row → Rule Words A) (c : ℕ) (s : Words) (r : R)
     (ws : List ℕ) : Type 0 where
-  pub run : (types : List ℕ) → As F (m (row kinds types)) c s r ws
+  pub run : (x : X) → As F (m (rows x)) c s r ws
+
+-- whatever the value types are, the kinds, or both
+abbrev pub Untyped : {A R : Type 0} → Form A R → (Row → Rule Words A) → List ℕ → ℕ → Words → R → List ℕ → Type 0
+Untyped F m kinds = Across (row kinds) F m
+
+abbrev pub Unkinded : {A R : Type 0} → Form A R → (Row → Rule Words A) → List ℕ → ℕ → Words → R → List ℕ → Type 0
+Unkinded F m types = Across (λ kinds. row kinds types) F m
+
+abbrev pub Unread : {A R : Type 0} → Form A R → (Row → Rule Words A) → ℕ → Words → R → List ℕ → Type 0
+Unread F m = Across (λ (at : Row). at) F m
 
 -- The same of a reader that appends nothing and reads no value type: whatever these and the column are.
 pub record Quiet {A R : Type 0} (F : Form A R) (m : Row → Rule Words A) (kinds : List ℕ) (c count : ℕ)

@@ -2,7 +2,7 @@
 use mathlib.Core.Path.{_≡_, refl, ap}
 use mathlib.Core.List.{List, []}
 use mathlib.Core.Option.{none}
-use Prim.Native.Nat.{ℕ, _+_, _≤_, _<_}
+use Prim.Native.Nat.{ℕ, _+_, _≤_}
 use native.Mathlib.Omega.{arith}
 use mathlib.Core.Bool.{Bool, true, false}
 use lib.Dec.{eqb, ltb}
@@ -15,7 +15,7 @@ use Rattle.codes.specs.Answer.{row}
 use Rattle.codes.specs.Words.{Gives, Quiet, Sized, nodes}
 use Rattle.codes.proofs.Onto.{sized-after, plain-parsed, moved, came-read}
 use Rattle.nodes.specs.declared.ActiveList.{ActiveList}
-use Rattle.nodes.specs.Answer.{Slots, ends, past}
+use Rattle.nodes.specs.Answer.{WithinSlots, ends, past}
 use Rattle.nodes.proofs.Laws.{past-none}
 use Rattle.nodes.proofs.Bounds.{slots}
 use Rattle.tokens.specs.declared.Optional.{Optional}
@@ -27,11 +27,11 @@ use Rattle.tokens.proofs.Bounds.{past-optional, past-consumed, same-count}
 use Rattle.expressions.proofs.Bounds.{root-fits}
 use Rattle.declarations.specs.Answer.{named}
 use Rattle.rules.specs.Codes.{pick, refusalOf}
-use Rattle.rules.specs.Codes.Refusal as Refusal
 use Rattle.rules.specs.Codes.DeclarationFlag as DeclarationFlag
 use Rattle.rules.specs.Codes.Limit as Limit
 use Rattle.rules.specs.Codes.BaseToken as BaseToken
 use Rattle.rules.specs.Reading.{Outcome, consume}
+use Rattle.rules.specs.Places.{placeOf, untaken}
 use Rattle.rules.specs.Words.{Words, words}
 use Rattle.rules.specs.Types.{type}
 use Rattle.rules.specs.Expressions.{expression}
@@ -53,7 +53,7 @@ module _ {tk : List ℕ} {c k : ℕ} (key : ℕ) {o : Consumed} (g : Quiet consu
   past-name h z = let y = consumed-sized h z in omega arith
 
   -- no node is appended
-  pub consumed-slots : {ns : List ℕ} → Slots ns k → Slots ns j
+  pub consumed-slots : {ns : List ℕ} → WithinSlots ns k → WithinSlots ns j
   consumed-slots z = rw (same-count key g q) z
 
   pub consumed-kept : {n : ℕ} → n ≤ k → n ≤ j
@@ -92,20 +92,20 @@ module _ {tk tv ns : List ℕ} {c k : ℕ} (u : ℕ) {r : Parsed} {ns' : List �
 
   -- the type's node number fits a load
   pub typed-fits :
-      (number : ℕ) → Nonzero number → eqb number Refusal.NoSlot ≡ false →
+      (number : ℕ) → Nonzero number → placeOf number ≡ untaken →
       Gives (typed words (row tk tv) number u) c (nodes ns k) r ns' → n .0 ≤ Limit.Load
   typed-fits number h e g = root-fits (typed-root (row tk tv) u number e) g q z (typed-sized number h g)
 
-  pub type-slots : Gives (type words (row tk tv) u) c (nodes ns k) r ns' → Slots ns' j
+  pub type-slots : Gives (type words (row tk tv) u) c (nodes ns k) r ns' → WithinSlots ns' j
   type-slots g = slots (sized-after z plain-parsed (type-moves (below (row tk tv)) (omega arith) u c) g q .0)
 
-  pub value-slots : Gives (value words (row tk tv) u) c (nodes ns k) r ns' → Slots ns' j
+  pub value-slots : Gives (value words (row tk tv) u) c (nodes ns k) r ns' → WithinSlots ns' j
   value-slots g = slots (sized-after z plain-parsed (value-moves (below (row tk tv)) (omega arith) u c) g q .0)
 
   members-sized : Gives (members words (row tk tv) u) c (nodes ns k) r ns' → Sized tk tv ns' (p .0) j
   members-sized g = sized-after z plain-parsed (members-moves (below (row tk tv)) (omega arith) u c) g q .0
 
-  pub members-slots : Gives (members words (row tk tv) u) c (nodes ns k) r ns' → Slots ns' j
+  pub members-slots : Gives (members words (row tk tv) u) c (nodes ns k) r ns' → WithinSlots ns' j
   members-slots g = slots (members-sized g)
 
   pub members-fits : Gives (members words (row tk tv) u) c (nodes ns k) r ns' → n .0 ≤ Limit.Load
@@ -130,7 +130,7 @@ module _ {tk tv ns : List ℕ} {c k : ℕ} {o : Consumed} (g : Quiet consumed (c
   pub semicolon-sized : Sized tk tv ns (v .cursor .0) j
   semicolon-sized = past-optional d refl (consumed-sized _ g q refl z)
 
-  pub semicolon-slots : Slots ns j
+  pub semicolon-slots : WithinSlots ns j
   semicolon-slots = slots semicolon-sized
 
 -- after a member
@@ -143,7 +143,7 @@ module _ {tk tv ns : List ℕ} {c k : ℕ} (u : ℕ) {r : Parsed} {ns' : List �
   pub past-member : p .0 ≤ Limit.Tokens + 1
   past-member = let y = member-sized in omega arith
 
-  pub member-slots : Slots ns' j
+  pub member-slots : WithinSlots ns' j
   member-slots = slots member-sized
 
   pub member-kept : {m : ℕ} → m ≤ k → m ≤ j
@@ -167,11 +167,13 @@ opaque-fits flags e h = rw e (go (ltb flags DeclarationFlag.OpaqueStruct) refl)
 
 pub size-fits : {size : ℕ} (kind : ℕ) → size ≡ sizeOfWord kind → size ≤ Limit.Load
 size-fits kind e = rw e (
-    go (eqb kind BaseToken.Word8) (eqb kind BaseToken.Word16) (eqb kind BaseToken.Word32) (eqb kind BaseToken.Word64))
+    go (eqb kind BaseToken.Word8) (eqb kind BaseToken.Word16) (eqb kind BaseToken.Word32) (eqb kind BaseToken.Word64)
+    (eqb kind BaseToken.Word128))
   where
-    go : (a b c d : Bool) → pick a 1 (pick b 2 (pick c 4 (pick d 8 16))) ≤ Limit.Load
-    go true b c d = omega arith
-    go false true c d = omega arith
-    go false false true d = omega arith
-    go false false false true = omega arith
-    go false false false false = omega arith
+    go : (a b c d e : Bool) → pick a 1 (pick b 2 (pick c 4 (pick d 8 (pick e 16 0)))) ≤ Limit.Load
+    go true b c d e = omega arith
+    go false true c d e = omega arith
+    go false false true d e = omega arith
+    go false false false true e = omega arith
+    go false false false false true = omega arith
+    go false false false false false = omega arith

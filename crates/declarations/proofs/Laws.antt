@@ -1,4 +1,6 @@
 -- How the answers of the readers of declarations follow from those of the readers that they call, a law for each return.
+use native.Mathlib.Omega.{arith}
+use mathlib.Core.Logic.{_≢_}
 use mathlib.Core.Path.{_≡_, refl, sym}
 use mathlib.Core.Bool.{true, false}
 use mathlib.Core.List.{List, [], _∷_}
@@ -10,9 +12,9 @@ use Rattle.codes.specs.declared.Parsed.the-variants.{Node, Refused}
 use Rattle.codes.specs.declared.NodeId.{NodeId}
 use Rattle.codes.specs.declared.TokenId.{TokenId}
 use Rattle.codes.specs.Answer.{token, row}
-use Rattle.codes.specs.Words.{As, Gives, Quiet, Untyped, nodes}
+use Rattle.codes.specs.Words.{As, Gives, Quiet, Untyped, nodes, Unread}
 use Rattle.codes.proofs.Onto.{Onto, _then_, stays, reads, at-here, answers, declines, shows, told, held, hands-on}
-use Rattle.codes.proofs.Onto.{first, came-read, plain-parsed, regroup, picked, Rest}
+use Rattle.codes.proofs.Onto.{first, came-read, plain-parsed, regroup, picked}
 use Rattle.tokens.specs.declared.Optional.{Optional}
 use Rattle.tokens.specs.declared.Consumed.{Consumed}
 use Rattle.tokens.specs.declared.Consumed.the-variants.{Next, Wrong}
@@ -26,7 +28,7 @@ use Rattle.types.specs.Answer.{Shorts}
 use Rattle.types.proofs.Laws.{short-type}
 use Rattle.references.specs.declared.Stepped.{Stepped}
 use Rattle.references.specs.declared.Stepped.the-variants.{Last, Refused as Stopped}
-use Rattle.references.specs.Answer.{Unread, stepped, stepping}
+use Rattle.references.specs.Answer.{stepped, stepping}
 use Rattle.declarations.specs.Answer.{coloned, named, memberTyped, declaring, structured, opaqueStruct}
 use Rattle.declarations.specs.Answer.{valued, memberEnding}
 use Rattle.rules.specs.Codes.BaseToken as BaseToken
@@ -270,19 +272,38 @@ pub data Sizes : ℕ → ℕ → Type 0 where
   two : Sizes BaseToken.Word16 2
   four : Sizes BaseToken.Word32 4
   eight : Sizes BaseToken.Word64 8
+  sixteen : Sizes BaseToken.Word128 16
 
 pub word-size : (kind : ℕ) {key size : ℕ} → Sizes key size → kind ≡ key → size ≡ sizeOfWord kind
 word-size kind one e = rw e refl
 word-size kind two e = rw e refl
 word-size kind four e = rw e refl
 word-size kind eight e = rw e refl
+word-size kind sixteen e = rw e refl
 
-pub no-word :
-    (kind : ℕ) →
-    Rest kind (Unit {0}) (BaseToken.Word8 ∷ BaseToken.Word16 ∷ BaseToken.Word32 ∷ BaseToken.Word64 ∷ []) →
-    16 ≡ sizeOfWord kind
+-- the last of them is what the others are not
+pub last-size :
+    (kind : ℕ) → BaseToken.Word8 ≤ kind → kind ≤ BaseToken.Word128 → kind ≢ BaseToken.Word8 → kind ≢ BaseToken.Word16 →
+    kind ≢ BaseToken.Word32 → kind ≢ BaseToken.Word64 → 16 ≡ sizeOfWord kind
+last-size kind l h a b c d = word-size kind sixteen (omega arith)
+
+-- what is no word has no size
+no-word :
+    (kind : ℕ) → ((key : ℕ) → BaseToken.Word8 ≤ key → key ≤ BaseToken.Word128 → kind ≢ key) → 0 ≡ sizeOfWord kind
 no-word kind h =
-    rw (ne-eqb _ _ (h .0 .0 .0 .1), ne-eqb _ _ (h .0 .0 .1), ne-eqb _ _ (h .0 .1), ne-eqb _ _ (h .1)) refl
+    rw (
+      ne-eqb _ _ (h BaseToken.Word8 (omega arith) (omega arith)),
+      ne-eqb _ _ (h BaseToken.Word16 (omega arith) (omega arith)),
+      ne-eqb _ _ (h BaseToken.Word32 (omega arith) (omega arith)),
+      ne-eqb _ _ (h BaseToken.Word64 (omega arith) (omega arith)),
+      ne-eqb _ _ (h BaseToken.Word128 (omega arith) (omega arith)),
+    ) refl
+
+pub below-words : (kind : ℕ) → kind < BaseToken.Word8 → 0 ≡ sizeOfWord kind
+below-words kind h = no-word kind (λ key a b e. omega arith)
+
+pub above-words : (kind : ℕ) → BaseToken.Word128 < kind → 0 ≡ sizeOfWord kind
+above-words kind h = no-word kind (λ key a b e. omega arith)
 
 -- a struct without members
 module _ (start flags name c : ℕ) {l : Option _} (none' : l ≡ none) {s : Words} {r₁ : Parsed} {ks₁ : List ℕ}

@@ -10,11 +10,11 @@ use Rattle.codes.specs.declared.Parsed.{Parsed}
 use Rattle.codes.specs.declared.TokenId.{TokenId}
 use Rattle.codes.specs.Answer.{row}
 use Rattle.codes.specs.Words.{As, Gives, Sized, nodes}
-use Rattle.codes.proofs.Onto.{Onto, _then_, stays, first, reads, regroup, shows, held, hands-on, came-read, split}
-use Rattle.codes.proofs.Onto.{sized-after, moved}
-use Rattle.codes.proofs.Loops.{Going, sets-out, goes-round, round, round-again, round-last, heldIn, same-held}
+use Rattle.codes.proofs.Onto.{Onto, stays, split}
+use Rattle.codes.proofs.Loops.{Going, sets-out, goes-round, heldIn, same-held, turn-refused, turn-last, turn-again}
+use Rattle.codes.proofs.Loops.{round-over}
 use Rattle.nodes.specs.declared.ActiveList.{ActiveList}
-use Rattle.nodes.specs.Answer.{Slots, ends, active, past}
+use Rattle.nodes.specs.Answer.{WithinSlots, ends, active, past}
 use Rattle.nodes.proofs.Laws.{active-ends}
 use Rattle.nodes.proofs.Bounds.{slots}
 use Rattle.references.specs.declared.Stepped.{Stepped}
@@ -25,7 +25,7 @@ use Rattle.references.proofs.Bounds.{step-fits}
 use Rattle.expressions.proofs.Steps.{more-same, last-same}
 use Rattle.rules.specs.Codes.{pick}
 use Rattle.rules.specs.Codes.Refusal as Refusal
-use Rattle.rules.specs.Reading.{Row, Outcome, Step, done, again, pure, refuse, repeat, loop, _>>=_, optional}
+use Rattle.rules.specs.Reading.{Row, Step, done, again, pure, refuse, repeat, loop, _>>=_, optional}
 use Rattle.rules.specs.Lists.{Ends}
 use Rattle.rules.specs.Words.{Words, words, pushEndOfList}
 use Rattle.rules.specs.Declarations.{member, memberEnd, memberItem, memberList}
@@ -67,28 +67,22 @@ module _ (tk tv : List ℕ) (u c₀ : ℕ) {s₀ : Words} (l : ActiveList) (c k 
     (h : Members tk tv u c₀ s₀ l c (nodes ks k)) {z : Stepped} {ks₁ : List ℕ}
     (g : As stepped (memberItem words (row tk tv) u (ends l)) c (nodes ks k) z ks₁) where
   pub list-refused : {r : Parsed} → z ≡ Stopped r → Gives (memberList words (row tk tv) u) c₀ s₀ r ks₁
-  list-refused w =
-      hands-on _ (h .onto then first _ (round _ _ (h .rounds) stays) then regroup _ _ _ _ _) (held holding-stepped g w)
+  list-refused w = turn-refused holding-stepped _ _ _ _ _ (h .onto) g w
 
   pub list-read :
       {m : ActiveList} {p : TokenId} {j : ℕ} → z ≡ Last m p j → {r : Parsed} {ks₂ : List ℕ} →
       Gives (pushEndOfList (ends m)) (p .0) (nodes ks₁ j) r ks₂ →
       Gives (memberList words (row tk tv) u) c₀ s₀ r ks₂
-  list-read {m} w d =
-      shows
-      (h .onto then reads _ (round-last _ _ (h .rounds)
-      (came-read (holding-stepped .plain) g {a = done (ends m)} (last-same w)))) d
+  list-read {m} w d = turn-last holding-stepped _ _ _ _ _ (h .onto) g {b = ends m} (last-same w) d
 
   module _ (y : Sized tk tv ks c k) (f : past l ≤ k) where
     turn-after :
         (b : Step (Option Ends) (Option Ends)) {p j : ℕ} → z ≡ stepped .read b p j →
         Sized tk tv ks₁ p j × Round 0 c b p × (past (active (heldIn b)) ≤ j)
     turn-after b q =
-        let goes = member-item (below (row tk tv)) (omega arith) u (ends l) c in
-        let (a, e) = sized-after y (holding-stepped .plain) goes g {a = b} q in
-        let came = came-read (holding-stepped .plain) g {a = b} q in
-        let (_, _, w) = moved came goes (y .used) (y .at) in
-        (a, e, member-fits (row tk tv) u (ends l) came (rw (active-ends l) (omega (arith, w .grew))))
+        round-over y (holding-stepped .plain) (member-item (below (row tk tv)) (omega arith) u (ends l) c)
+        (λ m s. past (active m) ≤ s .count)
+        (λ b p s e w. member-fits (row tk tv) u (ends l) e (rw (active-ends l) (omega arith))) g b q
 
     module _ {m : ActiveList} {p : TokenId} {j : ℕ} where
       pub turn-sized : z ≡ More m p j → Sized tk tv ks₁ (p .0) j
@@ -103,11 +97,9 @@ module _ (tk tv : List ℕ) (u c₀ : ℕ) {s₀ : Words} (l : ActiveList) (c k 
       pub next-member : z ≡ More m p j → Members tk tv u c₀ s₀ m (p .0) (nodes ks₁ j)
       next-member w =
           let (a, b, e) = turn-after (again (ends m)) (more-same w) in
-          goes-round _ h
-          (λ x. first _ (round-again _ _ x
-          (came-read (holding-stepped .plain) g {a = again (ends m)} (more-same w)))) b (a .at)
+          goes-round _ h (λ x. turn-again holding-stepped _ _ _ _ _ stays g {b = ends m} (more-same w)) b (a .at)
 
-      pub list-slots : z ≡ Last m p j → Slots ks₁ j
+      pub list-slots : z ≡ Last m p j → WithinSlots ks₁ j
       list-slots w = slots (turn-after (done (ends m)) (last-same w) .0)
 
       pub list-fits : z ≡ Last m p j → past m ≤ j

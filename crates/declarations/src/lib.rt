@@ -3,12 +3,12 @@
 // for the types and expressions inside.
 ghost use mathlib.Core.Path.{_≡_};
 ghost use Prim.Native.Nat.{_+_, _≤_};
-ghost use Rattle.rules.specs.Codes.Limit as Most;
+ghost use Rattle.rules.specs.Codes.Limit as Limits;
 ghost use Rattle.rules.specs.Words.{words};
 ghost use Rattle.rules.specs.Declarations.{opaque, sizeOfWord, structure, constantEnd, typed, value, member, memberItem, memberList, members, constant, struct, word};
 ghost use Rattle.codes.specs.Answer.{row};
 ghost use Rattle.codes.specs.Words.{As, Gives, Quiet, Untyped, Sized, nodes};
-ghost use Rattle.nodes.specs.Answer.{Slots, ends, past};
+ghost use Rattle.nodes.specs.Answer.{WithinSlots, ends, past};
 ghost use Rattle.tokens.specs.Answer.{consumed};
 ghost use Rattle.references.specs.Answer.{stepped};
 ghost use Rattle.declarations.specs.Answer.{coloned, named, memberTyped, declaring, structured, opaqueStruct, valued, memberEnding};
@@ -37,7 +37,7 @@ use types::short_type;
 
 // A colon; or the refusal of this number at the token in its place, which is not taken.
 fn parse_colon(kinds: &[u8], cursor: TokenId, count: u32, number: u32) -> Consumed
-    requires { ⌜ cursor .0 ≤ Most.Tokens + 1 ⌝ }
+    requires { ⌜ cursor .0 ≤ Limits.Tokens + 1 ⌝ }
     ensures { λ r. ⌜ Quiet consumed (coloned number) (now (kinds .entry)) (cursor .0) count r ⌝ }
 {
     if peek(kinds, cursor) == BaseToken::Colon {
@@ -60,7 +60,7 @@ fn parse_colon(kinds: &[u8], cursor: TokenId, count: u32, number: u32) -> Consum
 
 // A name and a colon. Where the colon is missing, the refusal has this number.
 fn parse_name(kinds: &[u8], cursor: TokenId, count: u32, number: u32) -> Consumed
-    requires { ⌜ cursor .0 ≤ Most.Tokens ⌝ }
+    requires { ⌜ cursor .0 ≤ Limits.Tokens ⌝ }
     ensures { λ r. ⌜ Quiet consumed (named number) (now (kinds .entry)) (cursor .0) count r ⌝ }
 {
     match consume(kinds, cursor, count, BaseToken::Identifier) {
@@ -105,7 +105,7 @@ fn parse_member_type(
     unused: u32,
     name: TokenId,
 ) -> Parsed
-    requires { ⌜ Sized (now kinds) (now types) (now «node_words») (cursor .0) count × (name .0 ≤ Most.Load) ⌝ }
+    requires { ⌜ Sized (now kinds) (now types) (now «node_words») (cursor .0) count × (name .0 ≤ Limits.Load) ⌝ }
     ensures { λ r. ⌜ Gives (memberTyped unused (name .0) (row (now (kinds .entry)) (now (types .entry)))) (cursor .0) (nodes (now («node_words» .entry)) count) r (now («node_words» .exit)) ⌝ }
 {
     let kind = ParseNode::IdentifierAndType;
@@ -164,7 +164,7 @@ fn finish_member(
     list: ActiveList,
     member: NodeId,
 ) -> Stepped
-    requires { ⌜ (cursor .0 ≤ Most.Tokens + 1) × Slots (now «node_words») count × (past list ≤ count) ⌝ }
+    requires { ⌜ (cursor .0 ≤ Limits.Tokens + 1) × WithinSlots (now «node_words») count × (past list ≤ count) ⌝ }
     ensures { λ r. ⌜ Untyped stepped (memberEnding (ends list) (member .0)) (now (kinds .entry)) (cursor .0) (nodes (now («node_words» .entry)) count) r (now («node_words» .exit)) ⌝ }
 {
     match consume(kinds, cursor, count, BaseToken::Comma) {
@@ -282,7 +282,7 @@ fn push_declaration(
     flags: u32,
     name: TokenId,
 ) -> Parsed
-    requires { ⌜ Slots (now «node_words») count × (start .0 ≤ Most.Load) × (flags ≤ Most.Load) × (name .0 ≤ Most.Load) ⌝ }
+    requires { ⌜ WithinSlots (now «node_words») count × (start .0 ≤ Limits.Load) × (flags ≤ Limits.Load) × (name .0 ≤ Limits.Load) ⌝ }
     ensures { λ r. ⌜ Gives (declaring kind (start .0) flags (name .0)) (cursor .0) (nodes (now («node_words» .entry)) count) r (now («node_words» .exit)) ⌝ }
 {
     let flagged = push_two(
@@ -316,7 +316,7 @@ fn push_structure(
     name: TokenId,
     list: NodeId,
 ) -> Parsed
-    requires { ⌜ Slots (now «node_words») count × (start .0 ≤ Most.Load) × (flags ≤ Most.Load) × (size ≤ Most.Load) × (name .0 ≤ Most.Load) × (list .0 ≤ Most.Load) ⌝ }
+    requires { ⌜ WithinSlots (now «node_words») count × (start .0 ≤ Limits.Load) × (flags ≤ Limits.Load) × (size ≤ Limits.Load) × (name .0 ≤ Limits.Load) × (list .0 ≤ Limits.Load) ⌝ }
     ensures { λ r. ⌜ Gives (structure words (start .0) flags size (name .0) (list .0)) (cursor .0) (nodes (now («node_words» .entry)) count) r (now («node_words» .exit)) ⌝ }
 {
     let sized = push_two(
@@ -353,7 +353,7 @@ fn parse_structure(
     size: u32,
     name: TokenId,
 ) -> Parsed
-    requires { ⌜ Sized (now kinds) (now types) (now «node_words») (cursor .0) count × (start .0 ≤ Most.Load) × (flags ≤ Most.Load) × (size ≤ Most.Load) × (name .0 ≤ Most.Load) ⌝ }
+    requires { ⌜ Sized (now kinds) (now types) (now «node_words») (cursor .0) count × (start .0 ≤ Limits.Load) × (flags ≤ Limits.Load) × (size ≤ Limits.Load) × (name .0 ≤ Limits.Load) ⌝ }
     ensures { λ r. ⌜ Gives (structured unused (start .0) flags size (name .0) (row (now (kinds .entry)) (now (types .entry)))) (cursor .0) (nodes (now («node_words» .entry)) count) r (now («node_words» .exit)) ⌝ }
 {
     let list = parse_struct_members(kinds, types, node_words, cursor, count, unused);
@@ -388,7 +388,7 @@ fn push_opaque_struct(
     flags: u32,
     name: TokenId,
 ) -> Parsed
-    requires { ⌜ Slots (now «node_words») count × (start .0 ≤ Most.Load) × (flags ≤ Most.Load) × (name .0 ≤ Most.Load) ⌝ }
+    requires { ⌜ WithinSlots (now «node_words») count × (start .0 ≤ Limits.Load) × (flags ≤ Limits.Load) × (name .0 ≤ Limits.Load) ⌝ }
     ensures { λ r. ⌜ Gives (opaqueStruct (start .0) flags (name .0)) (cursor .0) (nodes (now («node_words» .entry)) count) r (now («node_words» .exit)) ⌝ }
 {
     let list = push_end_of_list(node_words, cursor, count, start_list());
@@ -415,7 +415,7 @@ pub fn parse_struct_declaration(
     start: TokenId,
     flags: u32,
 ) -> Parsed
-    requires { ⌜ Sized (now kinds) (now types) (now «node_words») (cursor .0) count × (start .0 ≤ Most.Load) × (flags ≤ Most.Load) ⌝ }
+    requires { ⌜ Sized (now kinds) (now types) (now «node_words») (cursor .0) count × (start .0 ≤ Limits.Load) × (flags ≤ Limits.Load) ⌝ }
     ensures { λ r. ⌜ Gives (struct words (row (now (kinds .entry)) (now (types .entry))) unused (start .0) flags) (cursor .0) (nodes (now («node_words» .entry)) count) r (now («node_words» .exit)) ⌝ }
 {
     match consume(kinds, cursor, count, BaseToken::Identifier) {
@@ -446,10 +446,17 @@ pub fn parse_struct_declaration(
     }
 }
 
-// A word's size by its declaring token.
+// A word's size by its declaring token. What is none is told first: an entry has refused it, so that these two tests are
+// compiled away.
 fn size_of_word(kind: u8) -> u32
     ensures { λ r. ⌜ r ≡ sizeOfWord kind ⌝ }
 {
+    if kind < BaseToken::Word8 {
+        return 0;
+    }
+    if kind > BaseToken::Word128 {
+        return 0;
+    }
     match kind {
         BaseToken::Word8 => 1,
         BaseToken::Word16 => 2,
@@ -471,7 +478,7 @@ pub fn parse_word_declaration(
     flags: u32,
     declaring_token: u8,
 ) -> Parsed
-    requires { ⌜ Sized (now kinds) (now types) (now «node_words») (cursor .0) count × (start .0 ≤ Most.Load) × (flags ≤ Most.Load) ⌝ }
+    requires { ⌜ Sized (now kinds) (now types) (now «node_words») (cursor .0) count × (start .0 ≤ Limits.Load) × (flags ≤ Limits.Load) ⌝ }
     ensures { λ r. ⌜ Gives (word words (row (now (kinds .entry)) (now (types .entry))) unused (start .0) flags «declaring_token») (cursor .0) (nodes (now («node_words» .entry)) count) r (now («node_words» .exit)) ⌝ }
 {
     match consume(kinds, cursor, count, BaseToken::Identifier) {
@@ -550,7 +557,7 @@ fn push_constant(
     value_type: NodeId,
     value: NodeId,
 ) -> Parsed
-    requires { ⌜ Slots (now «node_words») count × (start .0 ≤ Most.Load) × (flags ≤ Most.Load) × (name .0 ≤ Most.Load) × («value_type» .0 ≤ Most.Load) ⌝ }
+    requires { ⌜ WithinSlots (now «node_words») count × (start .0 ≤ Limits.Load) × (flags ≤ Limits.Load) × (name .0 ≤ Limits.Load) × («value_type» .0 ≤ Limits.Load) ⌝ }
     ensures { λ r. ⌜ Gives (constantEnd words (start .0) flags (name .0) («value_type» .0) (value .0)) (cursor .0) (nodes (now («node_words» .entry)) count) r (now («node_words» .exit)) ⌝ }
 {
     let item = push_older_node(node_words, cursor, count, value_type);
@@ -579,7 +586,7 @@ fn parse_rest_of_constant(
     name: TokenId,
     value_type: NodeId,
 ) -> Parsed
-    requires { ⌜ Sized (now kinds) (now types) (now «node_words») (cursor .0) count × (start .0 ≤ Most.Load) × (flags ≤ Most.Load) × (name .0 ≤ Most.Load) × («value_type» .0 ≤ Most.Load) ⌝ }
+    requires { ⌜ Sized (now kinds) (now types) (now «node_words») (cursor .0) count × (start .0 ≤ Limits.Load) × (flags ≤ Limits.Load) × (name .0 ≤ Limits.Load) × («value_type» .0 ≤ Limits.Load) ⌝ }
     ensures { λ r. ⌜ Gives (valued unused (start .0) flags (name .0) («value_type» .0) (row (now (kinds .entry)) (now (types .entry)))) (cursor .0) (nodes (now («node_words» .entry)) count) r (now («node_words» .exit)) ⌝ }
 {
     let initial = parse_value(kinds, types, node_words, cursor, count, unused);
@@ -614,7 +621,7 @@ pub fn parse_constant_declaration(
     start: TokenId,
     flags: u32,
 ) -> Parsed
-    requires { ⌜ Sized (now kinds) (now types) (now «node_words») (cursor .0) count × (start .0 ≤ Most.Load) × (flags ≤ Most.Load) ⌝ }
+    requires { ⌜ Sized (now kinds) (now types) (now «node_words») (cursor .0) count × (start .0 ≤ Limits.Load) × (flags ≤ Limits.Load) ⌝ }
     ensures { λ r. ⌜ Gives (constant words (row (now (kinds .entry)) (now (types .entry))) unused (start .0) flags) (cursor .0) (nodes (now («node_words» .entry)) count) r (now («node_words» .exit)) ⌝ }
 {
     let number = Refusal::MissingConstantType;

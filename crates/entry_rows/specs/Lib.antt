@@ -1,3 +1,2 @@
-pub mod Most
+pub mod QuestionLimits
 pub mod Fits
-pub mod Kept

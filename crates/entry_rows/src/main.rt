@@ -4,20 +4,19 @@
 //     TEXT # ENTRY SETTINGS : WORD WORD ..
 //
 // TEXT and the words are those of crate row_text, ENTRY and the settings those of question.rt. The frame is kept where
-// every slot below the given node count and from the replied one on holds what it held before the call (columns.rt).
+// every slot below the given node count and from the replied one on holds what it held before the call (crate node_slots).
 ghost use Prim.Native.Nat.{_≤_};
 ghost use mathlib.Core.Path.{_≡_};
 ghost use lib.ListN.{length};
-ghost use Rattle.entry_rows.specs.Most as Most;
+ghost use Rattle.node_slots.specs.SlotLimits as SlotLimits;
 
-mod columns;
 mod question;
 
 use codes::Parsed;
 use codes::TokenId;
-use columns::SLOTS;
 use libc::STDIN_FILENO;
 use libc::STDOUT_FILENO;
+use node_slots::SLOTS;
 use penne::parse_constant_declaration;
 use penne::parse_expression;
 use penne::parse_struct_declaration;
@@ -78,30 +77,30 @@ fn show(
     node_kinds: &mut [u8],
     node_loads: &mut [u32],
 )
-    requires { ⌜ (length (now «node_kinds») ≤ Most.Slots) × (length (now «node_loads») ≤ Most.Slots) ⌝ }
+    requires { ⌜ (length (now «node_kinds») ≤ SlotLimits.Slots) × (length (now «node_loads») ≤ SlotLimits.Slots) ⌝ }
     ensures kinds { λ r. ⌜ length (now («node_kinds» .exit)) ≡ length (now («node_kinds» .entry)) ⌝ }
     ensures loads { λ r. ⌜ length (now («node_loads» .exit)) ≡ length (now («node_loads» .entry)) ⌝ }
 {
     let given = question.count as usize;
-    columns::fill_kinds(node_kinds);
-    columns::fill_loads(node_loads);
+    node_slots::fill_kinds(node_kinds);
+    node_slots::fill_loads(node_loads);
     let reply = ask(question, kinds, types, node_kinds, node_loads);
     let count = show::print_reply(reply) as usize;
-    if columns::kinds_kept(node_kinds, given, count)
-        && columns::loads_kept(node_loads, given, count)
+    if node_slots::kinds_kept(node_kinds, given, count)
+        && node_slots::loads_kept(node_loads, given, count)
     {
         io::write_all(STDOUT_FILENO, b", frame kept");
     } else {
         io::write_all(STDOUT_FILENO, b", FRAME BROKEN");
     }
-    columns::print_appended(node_kinds, node_loads, given, count);
+    node_slots::print_appended(node_kinds, node_loads, given, count);
 }
 
 // The reply to a row: the first tokens and the first slots of all.
 fn show_row(row: Row, kinds: &[u8], types: &[u8], node_kinds: &mut [u8], node_loads: &mut [u32])
     requires { ⌜ (row .tokens ≤ length (now kinds)) × (row .types ≤ length (now types)) ⌝ }
     requires { ⌜ (row .slots ≤ length (now «node_kinds»)) × (row .loads ≤ length (now «node_loads»)) ⌝ }
-    requires { ⌜ (row .slots ≤ Most.Slots) × (row .loads ≤ Most.Slots) ⌝ }
+    requires { ⌜ (row .slots ≤ SlotLimits.Slots) × (row .loads ≤ SlotLimits.Slots) ⌝ }
     ensures kinds { λ r. ⌜ length (now («node_kinds» .exit)) ≡ length (now («node_kinds» .entry)) ⌝ }
     ensures loads { λ r. ⌜ length (now («node_loads» .exit)) ≡ length (now («node_loads» .entry)) ⌝ }
 {
@@ -137,13 +136,6 @@ fn answer(
     show_row(row, kinds, types, node_kinds, node_loads);
 }
 
-fn is_row(line: &[u8]) -> bool {
-    if line.len() == 0 {
-        return false;
-    }
-    line[0] != b'#'
-}
-
 fn show_line(
     line: &[u8],
     kinds: &mut [u8; TOKENS],
@@ -151,7 +143,7 @@ fn show_line(
     node_kinds: &mut [u8; SLOTS],
     node_loads: &mut [u32; SLOTS],
 ) {
-    if is_row(line) {
+    if lines::is_row(line) {
         answer(line, kinds, types, node_kinds, node_loads);
         return;
     }
@@ -168,7 +160,7 @@ fn show_lines(
 ) {
     let mut from: usize = 0;
     while from < input.len() {
-        let end = row_text::find(input, from, b'\n');
+        let end = lines::find(input, from, b'\n');
         show_line(&input[from..end], kinds, types, node_kinds, node_loads);
         from = end + 1;
     }

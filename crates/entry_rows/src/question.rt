@@ -8,10 +8,10 @@
 // the length of the value-type column, is the number of tokens.
 ghost use Prim.Native.Nat.{_≤_};
 ghost use lib.ListN.{length};
-ghost use Rattle.entry_rows.specs.Most as Most;
-ghost use Rattle.entry_rows.specs.Fits.{Sized, Fits};
-use crate::columns::SLOTS;
+ghost use Rattle.entry_rows.specs.QuestionLimits as QuestionLimits;
+ghost use Rattle.entry_rows.specs.Fits.{SizesFit, Fits};
 use codes::BaseToken;
+use node_slots::SLOTS;
 use row_text::TOKENS;
 
 // A cursor, a count, a start and flags are any 32-bit numbers, a kind is any byte.
@@ -77,23 +77,23 @@ fn read_entry(line: &[u8], from: usize) -> NamedEntry
     requires { ⌜ from ≤ length (now line) ⌝ }
     ensures { λ r. ⌜ r .1 ≤ length (now (line .entry)) ⌝ }
 {
-    let expression = row_text::named(line, from, b"expression");
+    let expression = lines::named(line, from, b"expression");
     if from < expression {
         return NamedEntry(Entry::Expression, expression);
     }
-    let value_type = row_text::named(line, from, b"type");
+    let value_type = lines::named(line, from, b"type");
     if from < value_type {
         return NamedEntry(Entry::Type, value_type);
     }
-    let constant = row_text::named(line, from, b"constant");
+    let constant = lines::named(line, from, b"constant");
     if from < constant {
         return NamedEntry(Entry::Constant, constant);
     }
-    let structure = row_text::named(line, from, b"struct");
+    let structure = lines::named(line, from, b"struct");
     if from < structure {
         return NamedEntry(Entry::Struct, structure);
     }
-    let word = row_text::named(line, from, b"word");
+    let word = lines::named(line, from, b"word");
     NamedEntry(Entry::Word, word)
 }
 
@@ -103,7 +103,7 @@ fn read_question(line: &[u8], from: usize) -> AskedQuestion
 {
     let entry = read_entry(line, from);
     let after_entry = entry.1;
-    let settings = row_text::skip(line, after_entry);
+    let settings = lines::skip(line, after_entry);
     let cursor = row_text::setting(line, settings, b"cursor", ANY, 0);
     let after_cursor = cursor.next;
     let count = row_text::setting(line, after_cursor, b"count", ANY, 0);
@@ -134,8 +134,8 @@ fn read_question(line: &[u8], from: usize) -> AskedQuestion
 
 // The lengths, of a row with so many tokens.
 fn read_sizes(line: &[u8], from: usize, tokens: u32) -> Sizes
-    requires { ⌜ (from ≤ length (now line)) × (tokens ≤ Most.Tokens) ⌝ }
-    ensures { λ r. ⌜ Sized r ⌝ }
+    requires { ⌜ (from ≤ length (now line)) × (tokens ≤ QuestionLimits.Tokens) ⌝ }
+    ensures { λ r. ⌜ SizesFit r ⌝ }
 {
     let slots = row_text::setting(line, from, b"slots", MOST_SLOTS, USUAL_SLOTS);
     let after_slots = slots.next;
@@ -151,23 +151,31 @@ fn read_sizes(line: &[u8], from: usize, tokens: u32) -> Sizes
     }
 }
 
+// Where the text of a line ends: before the first `#`, and the spaces before that.
+fn text_end(line: &[u8]) -> usize
+    ensures { λ r. ⌜ r ≤ length (now (line .entry)) ⌝ }
+{
+    let hash = lines::find(line, 0, b'#');
+    lines::trim(line, hash)
+}
+
 // The row that a line says; its tokens are put into the columns.
 pub fn read_row(line: &[u8], kinds: &mut [u8; TOKENS], types: &mut [u8; TOKENS]) -> Row
     ensures { λ r. ⌜ Fits (now (line .entry)) r ⌝ }
 {
-    let end = row_text::find(line, 0, b'#');
-    let hash = row_text::after(line, end, b'#');
-    let colon = row_text::find(line, hash, b':');
-    let inside = row_text::after(line, colon, b':');
+    let end = lines::find(line, 0, b'#');
+    let hash = lines::after(line, end, b'#');
+    let colon = lines::find(line, hash, b':');
+    let inside = lines::after(line, colon, b':');
     let tokens = row_text::read_tokens(line, inside, kinds, types);
-    let start = row_text::skip(line, hash);
+    let start = lines::skip(line, hash);
     let asked = read_question(line, start);
     let after_question = asked.next;
     let sizes = read_sizes(line, after_question, tokens.count as u32);
     let question = asked.question;
     Row {
         good: asked.good && sizes.good && tokens.good && sizes.next == colon && colon < inside,
-        text: row_text::trim(line, end),
+        text: text_end(line),
         question,
         tokens: tokens.count,
         types: sizes.types as usize,

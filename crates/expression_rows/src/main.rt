@@ -1,7 +1,7 @@
 // The rows of standard input by parse_expression. For each row: its text, the reply, and the nodes up to the count.
 // Crate row_text says how a row is written. A line that is empty or begins with `#` is printed as it is.
 ghost use Prim.Native.Nat.{_≤_};
-ghost use Rattle.row_text.specs.Most as Most;
+ghost use Rattle.row_text.specs.LineLimits as LineLimits;
 use codes::Limit;
 use codes::TokenId;
 use libc::STDIN_FILENO;
@@ -22,7 +22,7 @@ fn show(
     tokens: usize,
     slots: usize,
 )
-    requires { ⌜ (tokens ≤ Most.Tokens) × (slots ≤ Most.Slots) ⌝ }
+    requires { ⌜ (tokens ≤ LineLimits.Tokens) × (slots ≤ LineLimits.Slots) ⌝ }
 {
     let kinds: &[u8] = all_kinds;
     let types: &[u8] = all_types;
@@ -57,15 +57,8 @@ fn show_row(line: &[u8]) {
     show(&line[..text], &kinds, &types, tokens, slots);
 }
 
-fn is_row(line: &[u8]) -> bool {
-    if line.len() == 0 {
-        return false;
-    }
-    line[0] != b'#'
-}
-
 fn show_line(line: &[u8]) {
-    if is_row(line) {
+    if lines::is_row(line) {
         show_row(line);
         return;
     }
@@ -76,7 +69,7 @@ fn show_line(line: &[u8]) {
 fn show_lines(input: &[u8]) {
     let mut from: usize = 0;
     while from < input.len() {
-        let end = row_text::find(input, from, b'\n');
+        let end = lines::find(input, from, b'\n');
         show_line(&input[from..end]);
         from = end + 1;
     }

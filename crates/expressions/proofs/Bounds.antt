@@ -13,7 +13,7 @@ use Rattle.codes.specs.declared.TokenId.{TokenId}
 use Rattle.codes.specs.Answer.{row}
 use Rattle.codes.specs.Words.{Gives, Quiet, Sized, nodes}
 use Rattle.codes.proofs.Onto.{split, sized-after, plain-parsed, moved, came-read}
-use Rattle.nodes.specs.Answer.{Slots}
+use Rattle.nodes.specs.Answer.{WithinSlots}
 use Rattle.nodes.proofs.Bounds.{slots, append-last}
 use Rattle.tokens.specs.declared.Optional.{Optional}
 use Rattle.tokens.specs.declared.Consumed.{Consumed}
@@ -62,7 +62,7 @@ module _ {tk tv ns : List ℕ} {c k : ℕ} (u : ℕ) {r : Parsed} {ns' : List �
   pub past-expression : p .0 ≤ Limit.Tokens + 1
   past-expression = let y = after-expression .0 in omega arith
 
-  pub expression-slots : Slots ns' j
+  pub expression-slots : WithinSlots ns' j
   expression-slots = slots (after-expression .0)
 
   -- what is among the nodes before is so after it
@@ -78,7 +78,7 @@ module _ {tk tv ns : List ℕ} {c k : ℕ} {o : Consumed} (g : Quiet consumed (c
   pub past-name : p .0 ≤ Limit.Tokens + 1
   past-name = let y = past-consumed _ g q refl z in omega arith
 
-  pub field-slots : Slots ns j
+  pub field-slots : WithinSlots ns j
   field-slots = slots (past-consumed _ g q refl z)
 
   pub name-kept : {n : ℕ} → n ≤ k → n ≤ j
@@ -109,7 +109,7 @@ module _ (tk : List ℕ) (piped : Bool) (c k : ℕ) {o : Opening} (g : Starts pi
   unfolding Starts Opens
   group-sized q = (rw q at g) .sized tv ks z
 
-  pub name-slots : {p : TokenId} {j : ℕ} → o ≡ Name p j → Slots ks j
+  pub name-slots : {p : TokenId} {j : ℕ} → o ≡ Name p j → WithinSlots ks j
   unfolding Starts Opens
   name-slots q = slots ((rw q at g) .sized tv ks z)
 
@@ -216,7 +216,7 @@ module _ {tk tv ns : List ℕ} {c k : ℕ} (u : ℕ) (bare : Bool) {r : Parsed} 
     pub past-term : p .0 ≤ Limit.Tokens + 1
     past-term = let y = after-operand u bare g q z .0 in omega arith
 
-    pub term-slots : Slots ns' j
+    pub term-slots : WithinSlots ns' j
     term-slots = slots (after-operand u bare g q z .0)
 
     pub term-fits : n .0 ≤ Limit.Load
@@ -231,7 +231,7 @@ module _ {tk tv ns : List ℕ} {c k : ℕ} (u : ℕ) (bare : Bool) {r : Parsed} 
     pub past-factor : p .0 ≤ Limit.Tokens + 1
     past-factor = let y = after-factor u bare g q z .0 in omega arith
 
-    pub factor-slots : Slots ns' j
+    pub factor-slots : WithinSlots ns' j
     factor-slots = slots (after-factor u bare g q z .0)
 
     pub factor-fits : n .0 ≤ Limit.Load
@@ -270,7 +270,7 @@ cast-unary-fits u bare d g q z = unary-fits u g q (past-cast bare d z)
 pub advance-slots :
     {tk tv ns : List ℕ} {c k : ℕ} (u : ℕ) {o : Optional} → Optionally tk BaseToken.Dots c o → {r : Parsed}
     {ns' : List ℕ} → Gives (expression words (row tk tv) u) (o .cursor .0) (nodes ns k) r ns' →
-    {n : NodeId} {p : TokenId} {j : ℕ} → r ≡ Node n p j → Sized tk tv ns c k → Slots ns' j
+    {n : NodeId} {p : TokenId} {j : ℕ} → r ≡ Node n p j → Sized tk tv ns c k → WithinSlots ns' j
 advance-slots u d g q z = expression-slots u g q (past-optional d refl z)
 
 -- a `|:` stands in the row
@@ -312,5 +312,5 @@ module _ {tk tv ns : List ℕ} {c k : ℕ} (t : ℕ) (peeked : t ≡ kindIn tk c
     pub past-operand : p .0 ≤ Limit.Tokens + 1
     past-operand = let y = after-primary u isPiped g q operand-sized in omega arith
 
-    pub operand-slots : Slots ns' j
+    pub operand-slots : WithinSlots ns' j
     operand-slots = slots (after-primary u isPiped g q operand-sized)

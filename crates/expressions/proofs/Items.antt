@@ -11,11 +11,11 @@ use Rattle.codes.specs.declared.Parsed.{Parsed}
 use Rattle.codes.specs.declared.TokenId.{TokenId}
 use Rattle.codes.specs.Answer.{row}
 use Rattle.codes.specs.Words.{As, Gives, Sized, nodes}
-use Rattle.codes.proofs.Onto.{Onto, _then_, stays, first, reads, regroup, shows, held, hands-on, came-read, split}
-use Rattle.codes.proofs.Onto.{moved, sized-after}
-use Rattle.codes.proofs.Loops.{Going, sets-out, goes-round, round, round-again, round-last, heldIn, same-held}
+use Rattle.codes.proofs.Onto.{Onto, stays, split, moved}
+use Rattle.codes.proofs.Loops.{Going, sets-out, goes-round, heldIn, same-held, turn-refused, turn-last, turn-again}
+use Rattle.codes.proofs.Loops.{round-over}
 use Rattle.nodes.specs.declared.ActiveList.{ActiveList}
-use Rattle.nodes.specs.Answer.{Slots, ends, active, past}
+use Rattle.nodes.specs.Answer.{WithinSlots, ends, active, past}
 use Rattle.nodes.proofs.Laws.{active-ends, past-none}
 use Rattle.nodes.proofs.Bounds.{slots}
 use Rattle.lists.specs.declared.Owner.{Owner as Code}
@@ -144,18 +144,13 @@ module _ (tk tv : List ℕ) (u : ℕ) (owner : Owner) (closing c₀ : ℕ) {s₀
     (g : As turned (listItems closing (ends l, i) u (row tk tv)) c (nodes ks k) z ks₁) where
   pub list-refused :
       {r : Parsed} → z ≡ Stopped r → Gives (within (listed owner) u (row tk tv)) c₀ s₀ r ks₁
-  list-refused w =
-      hands-on _ (h .1 .onto then first _ (round _ _ (h .1 .rounds) stays) then regroup _ _ _ _ _)
-      (held holding-turned g w)
+  list-refused w = turn-refused holding-turned _ _ _ _ _ (h .1 .onto) g w
 
   pub list-read :
       {m : ActiveList} {n : ℕ} {p : TokenId} {j : ℕ} → z ≡ Last m n p j → {r : Parsed} {ks₂ : List ℕ} →
       Gives (listEnd words owner (ends m, n)) (p .0) (nodes ks₁ j) r ks₂ →
       Gives (within (listed owner) u (row tk tv)) c₀ s₀ r ks₂
-  list-read {m} {n} w d =
-      shows
-      (h .1 .onto then reads _ (round-last _ _ (h .1 .rounds)
-      (came-read (holding-turned .plain) g {a = done (ends m, n)} (last-same w)))) d
+  list-read {m} {n} w d = turn-last holding-turned _ _ _ _ _ (h .1 .onto) g {b = (ends m, n)} (last-same w) d
 
   module _ (y : Sized tk tv ks c k) (f : past l ≤ k) (f' : i ≤ k) where
     turn-after :
@@ -164,15 +159,10 @@ module _ (tk tv : List ℕ) (u : ℕ) (owner : Owner) (closing c₀ : ℕ) {s₀
     unfolding listItems
     turn-after b q =
         let (n, n') = closings owner in
-        let (a, e) =
-        sized-after y (holding-turned .plain)
+        round-over y (holding-turned .plain)
         (list-item (below (row tk tv)) (omega arith) (item-moves (row tk tv) u closing) closing
-        (rw (h .0) n) (rw (h .0) n') (ends l, i) c) g {a = b} q in (
-          a,
-          e,
-          item-fits (row tk tv) u closing (ends l, i) (came-read (holding-turned .plain) g {a = b} q) (y .used) (y .at)
-              (rw (active-ends l) f, f'),
-        )
+        (rw (h .0) n) (rw (h .0) n') (ends l, i) c) Fits
+        (λ b p s e _. item-fits (row tk tv) u closing (ends l, i) e (y .used) (y .at) (rw (active-ends l) f, f')) g b q
 
     module _ {m : ActiveList} {n : ℕ} {p : TokenId} {j : ℕ} where
       pub turn-sized : z ≡ More m n p j → Sized tk tv ks₁ (p .0) j
@@ -191,12 +181,10 @@ module _ (tk tv : List ℕ) (u : ℕ) (owner : Owner) (closing c₀ : ℕ) {s₀
       next-item w =
           let (a, b, e) = turn-after (again (ends m, n)) (more-same w) in (
             h .0,
-            goes-round _ (h .1)
-                (λ x. first _ (round-again _ _ x
-                (came-read (holding-turned .plain) g {a = again (ends m, n)} (more-same w)))) b (a .at),
+            goes-round _ (h .1) (λ x. turn-again holding-turned _ _ _ _ _ stays g {b = (ends m, n)} (more-same w)) b (a .at),
           )
 
-      pub list-slots : z ≡ Last m n p j → Slots ks₁ j
+      pub list-slots : z ≡ Last m n p j → WithinSlots ks₁ j
       list-slots w = slots (turn-after (done (ends m, n)) (last-same w) .0)
 
       pub list-fits : z ≡ Last m n p j → past m ≤ j

@@ -11,10 +11,11 @@ use Rattle.codes.specs.declared.Parsed.{Parsed}
 use Rattle.codes.specs.declared.Parsed.the-variants.{Node, Refused}
 use Rattle.codes.specs.declared.NodeId.{NodeId}
 use Rattle.codes.specs.declared.TokenId.{TokenId}
-use Rattle.codes.specs.Answer.{token, nodeId, row, refusal, parsed}
+use Rattle.codes.specs.Answer.{token, nodeId, row, parsed}
 use Rattle.codes.specs.Words.{As, Gives, Quiet, Untyped, nodes}
-use Rattle.codes.proofs.Onto.{Onto, _then_, stays, first, reads, at-here, takes, peeks, answers, declines, shows, told}
+use Rattle.codes.proofs.Onto.{Onto, _then_, stays, first, reads, at-here, takes, peeks, answers, shows, told}
 use Rattle.codes.proofs.Onto.{hands-on, held, came-read, plain-parsed, regroup, Rest, beside, picked}
+use Rattle.codes.proofs.Onto.{TooDeep, no-nesting}
 use Rattle.tokens.specs.declared.Optional.{Optional}
 use Rattle.tokens.specs.declared.Consumed.{Consumed}
 use Rattle.tokens.specs.declared.Consumed.the-variants.{Next, Wrong}
@@ -38,7 +39,6 @@ use Rattle.expressions.specs.Answer.{prefixEnd, unaryEnd, sums, unaries,
 use Rattle.expressions.specs.Answer.{listItems, fields}
 use Rattle.rules.specs.Codes.BaseToken as BaseToken
 use Rattle.rules.specs.Codes.ParseNode as ParseNode
-use Rattle.rules.specs.Codes.Refusal as Refusal
 use Rattle.rules.specs.Codes.UnaryOp as UnaryOp
 use Rattle.rules.specs.Codes.BinaryOp as BinaryOp
 use Rattle.rules.specs.Codes.{pick}
@@ -101,11 +101,9 @@ module _ (tk : List ℕ) (t at e : ℕ) {c : ℕ} where
   primary-ends h = record { run = λ tv. answers (beside t _ _ h) }
 
 -- all nesting is used
-pub too-deep :
-    (tk tv : List ℕ) (u c k : ℕ) (ks : List ℕ) → u ≡ 0 →
-    Gives (expression words (row tk tv) u) c (nodes ks k) (refusal Refusal.NestingExceeded c c c k) ks
+pub too-deep : (tk tv : List ℕ) → TooDeep (expression words (row tk tv))
 unfolding expression
-too-deep tk tv u c k ks e = rw e (declines (at-here _))
+too-deep tk tv = no-nesting _ refl
 
 deeper : (row : Row) (u : ℕ) → (u ≡ 0 → ⊥) → expression words row u ≡ sums (u - 1) row
 unfolding expression sums

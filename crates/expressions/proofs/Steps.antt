@@ -11,11 +11,11 @@ use Rattle.codes.specs.declared.NodeId.{NodeId}
 use Rattle.codes.specs.declared.TokenId.{TokenId}
 use Rattle.codes.specs.Answer.{token, row, refusal}
 use Rattle.codes.specs.Words.{As, Gives, Untyped, Sized, nodes}
-use Rattle.codes.proofs.Onto.{Onto, _then_, stays, first, reads, regroup, at-here, answers, declines, shows, told, held}
-use Rattle.codes.proofs.Onto.{stops, hands-on, came-read, plain-parsed, Rest, split, sized-after, moved}
-use Rattle.codes.proofs.Loops.{round, round-again, round-last, heldIn, same-held}
+use Rattle.codes.proofs.Onto.{Onto, _then_, first, reads, regroup, at-here, answers, declines, shows, told, stops}
+use Rattle.codes.proofs.Onto.{hands-on, came-read, plain-parsed, Rest, split}
+use Rattle.codes.proofs.Loops.{heldIn, same-held, turn-refused, turn-last, turn-again, round-over}
 use Rattle.nodes.specs.declared.ActiveList.{ActiveList}
-use Rattle.nodes.specs.Answer.{Slots, ends, active, past}
+use Rattle.nodes.specs.Answer.{WithinSlots, ends, active, past}
 use Rattle.nodes.proofs.Laws.{active-ends}
 use Rattle.nodes.proofs.Bounds.{slots}
 use Rattle.tokens.specs.Answer.{kindIn}
@@ -30,7 +30,7 @@ use Rattle.rules.specs.Codes.{pick}
 use Rattle.rules.specs.Codes.BaseToken as BaseToken
 use Rattle.rules.specs.Codes.Limit as Limit
 use Rattle.rules.specs.Codes.Refusal as Refusal
-use Rattle.rules.specs.Reading.{Rule, Row, Outcome, Step, done, again, pure, repeat, _>>=_, optional}
+use Rattle.rules.specs.Reading.{Rule, Row, Step, done, again, pure, repeat, _>>=_, optional}
 use Rattle.rules.specs.Lists.{Ends}
 use Rattle.rules.specs.Words.{Words, words}
 use Rattle.rules.specs.Expressions as Rules
@@ -120,12 +120,10 @@ module _ {tk tv ns : List ℕ} (u c k : ℕ) (l : ActiveList) {r : Stepped} {ns'
       Sized tk tv ns' p j × Round 0 c b p × (past (active (heldIn b)) ≤ j)
   unfolding stepping
   step-after b q =
-      let goes =
-      step-round (below (row tk tv)) (omega arith) (expression-moves (below (row tk tv)) (omega arith) u) (ends l) c in
-      let (a, e) = sized-after z (holding-stepped .plain) goes g {a = b} q in
-      let came = came-read (holding-stepped .plain) g {a = b} q in
-      let (_, _, w) = moved came goes (z .used) (z .at) in
-      (a, e, stepped-fits (row tk tv) _ (ends l) came (rw (active-ends l) (omega (arith, w .grew))))
+      round-over z (holding-stepped .plain)
+      (step-round (below (row tk tv)) (omega arith) (expression-moves (below (row tk tv)) (omega arith) u) (ends l) c)
+      (λ m s. past (active m) ≤ s .count)
+      (λ b p s e w. stepped-fits (row tk tv) _ (ends l) e (rw (active-ends l) (omega arith))) g b q
 
   module _ {m : ActiveList} {p : TokenId} {j : ℕ} where
     pub more-sized : r ≡ More m p j → Sized tk tv ns' (p .0) j
@@ -134,7 +132,7 @@ module _ {tk tv ns : List ℕ} (u c k : ℕ) (l : ActiveList) {r : Stepped} {ns'
     pub more-fits : r ≡ More m p j → past m ≤ j
     more-fits q = let (a, b, e) = step-after (again (ends m)) (more-same q) in rw (active-ends m) at e
 
-    pub last-slots : r ≡ Last m p j → Slots ns' j
+    pub last-slots : r ≡ Last m p j → WithinSlots ns' j
     last-slots q = slots (step-after (done (ends m)) (last-same q) .0)
 
     pub last-fits : r ≡ Last m p j → past m ≤ j
@@ -179,23 +177,17 @@ module _ (tk tv : List ℕ) (u start depth name c₀ : ℕ) {s₀ : Words} (n : 
       pub steps-refused :
           {r : Parsed} → z ≡ Stopped r → Gives (within (dereferring start depth name) u (row tk tv)) c₀ s₀ r ks₁
       unfolding stepping
-      steps-refused w =
-          hands-on _ (going then first _ (round _ _ _ stays) then regroup _ _ _ _ _) (held holding-stepped g w)
+      steps-refused w = turn-refused holding-stepped _ _ _ _ _ going g w
 
       pub steps-read :
           {m : ActiveList} {p : TokenId} {j : ℕ} → z ≡ Last m p j → {r : Parsed} {ks₂ : List ℕ} →
           Gives (derefEnd (ends m) start depth name) (p .0) (nodes ks₁ j) r ks₂ →
           Gives (within (dereferring start depth name) u (row tk tv)) c₀ s₀ r ks₂
       unfolding stepping
-      steps-read {m} w d =
-          shows
-          (going then reads _ (round-last _ _ _
-          (came-read (holding-stepped .plain) g {a = done (ends m)} (last-same w)))) d
+      steps-read {m} w d = turn-last holding-stepped _ _ _ _ _ going g {b = ends m} (last-same w) d
 
       pub next-step :
           {m : ActiveList} {p : TokenId} {j : ℕ} → z ≡ More m p j →
           Steps tk tv u start depth name c₀ s₀ (n + 1) m (p .0) (nodes ks₁ j)
       unfolding stepping
-      next-step {m} w =
-          going then first _ (round-again _ _ _
-          (came-read (holding-stepped .plain) g {a = again (ends m)} (more-same w)))
+      next-step {m} w = turn-again holding-stepped _ _ _ _ _ going g {b = ends m} (more-same w)

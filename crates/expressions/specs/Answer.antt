@@ -6,7 +6,7 @@ use mathlib.Core.List.{[], _∷_}
 use mathlib.Core.Option.{Option}
 use Rattle.lists.specs.Answer.{Counted}
 use Rattle.openings.specs.Answer.{Holds}
-use Rattle.rules.specs.Codes.{pick, entry, _⇒_}
+use Rattle.rules.specs.Codes.{pick, lookup, _⇒_}
 use Rattle.rules.specs.Codes.BaseToken as BaseToken
 use Rattle.rules.specs.Codes.ParseNode as ParseNode
 use Rattle.rules.specs.Codes.UnaryOp as UnaryOp
@@ -20,7 +20,7 @@ use Rattle.rules.specs.Expressions.{product, sum, expression}
 -- the place of a unary's operand, by the token at c
 abbrev pub prefixEnd : ℕ → ℕ → ℕ
 prefixEnd token c =
-    entry token (BaseToken.Pipe ⇒ (c + 1) ∷ BaseToken.Exclamation ⇒ (c + 1) ∷ BaseToken.Minus ⇒ (c + 1) ∷ []) c
+    lookup token (BaseToken.Pipe ⇒ (c + 1) ∷ BaseToken.Exclamation ⇒ (c + 1) ∷ BaseToken.Minus ⇒ (c + 1) ∷ []) c
 
 -- what follows the operand e of a unary, by its first token, which is at
 unfoldable pub unaryEnd : ℕ → ℕ → ℕ → Row → Rule Words ℕ

@@ -6,13 +6,13 @@ ghost use Prim.Native.Nat.{_+_, _≤_};
 ghost use lib.ListN.{length};
 ghost use lib.Dec.{eqb};
 ghost use mathlib.Core.Bool.{false};
-ghost use Rattle.rules.specs.Codes.Limit as Most;
+ghost use Rattle.rules.specs.Codes.Limit as Limits;
 ghost use Rattle.rules.specs.Codes.BaseToken as Token;
 ghost use Rattle.rules.specs.Words.{words};
 ghost use Rattle.rules.specs.Expressions.{structural, expression};
 ghost use Rattle.codes.specs.Answer.{parsed, row};
 ghost use Rattle.codes.specs.Words.{As, Gives, Untyped, Sized, nodes};
-ghost use Rattle.nodes.specs.Answer.{Slots, ends, past};
+ghost use Rattle.nodes.specs.Answer.{WithinSlots, ends, past};
 ghost use Rattle.references.specs.Answer.{stepped};
 ghost use Rattle.lists.specs.Answer.{ownerOf, turned, Small};
 ghost use Rattle.openings.specs.Answer.{primaryOr, listed, referred, grouped};
@@ -65,7 +65,7 @@ use tokens::peek;
 
 // The place of the operand after a `!`, `-` or `|`, if the token here is one.
 fn after_prefix(cursor: TokenId, token: u8) -> TokenId
-    requires { ⌜ cursor .0 ≤ Most.Tokens ⌝ }
+    requires { ⌜ cursor .0 ≤ Limits.Tokens ⌝ }
     ensures { λ r. ⌜ r .0 ≡ prefixEnd token (cursor .0) ⌝ }
 {
     let at = cursor.0;
@@ -88,7 +88,7 @@ fn finish_unary(
     token: u8,
     at: TokenId,
 ) -> Parsed
-    requires { ⌜ (cursor .0 ≤ Most.Tokens + 1) × Slots (now «node_words») count × (at .0 ≤ Most.Load) ⌝ }
+    requires { ⌜ (cursor .0 ≤ Limits.Tokens + 1) × WithinSlots (now «node_words») count × (at .0 ≤ Limits.Load) ⌝ }
     ensures { λ r. ⌜ Untyped parsed (unaryEnd token (at .0) (root .0)) (now (kinds .entry)) (cursor .0) (nodes (now («node_words» .entry)) count) r (now («node_words» .exit)) ⌝ }
 {
     match token {
@@ -430,7 +430,7 @@ fn reference(
     name: TokenId,
     pointer: bool,
 ) -> Parsed
-    requires { ⌜ Sized (now kinds) (now types) (now «node_words») (cursor .0) count × (start .0 ≤ Most.Load) × (depth ≤ Most.Load) × (name .0 ≤ Most.Load) ⌝ }
+    requires { ⌜ Sized (now kinds) (now types) (now «node_words») (cursor .0) count × (start .0 ≤ Limits.Load) × (depth ≤ Limits.Load) × (name .0 ≤ Limits.Load) ⌝ }
     ensures { λ r. ⌜ Gives (within (referred (start .0) depth (name .0) pointer) unused (row (now (kinds .entry)) (now (types .entry)))) (cursor .0) (nodes (now («node_words» .entry)) count) r (now («node_words» .exit)) ⌝ }
 {
     let named = deref_steps(
@@ -469,7 +469,7 @@ fn advance(
     unused: u32,
     left: NodeId,
 ) -> Parsed
-    requires { ⌜ Sized (now kinds) (now types) (now «node_words») (cursor .0) count × (left .0 ≤ Most.Load) ⌝ }
+    requires { ⌜ Sized (now kinds) (now types) (now «node_words») (cursor .0) count × (left .0 ≤ Limits.Load) ⌝ }
     ensures { λ r. ⌜ Gives (within (advancing (left .0)) unused (row (now (kinds .entry)) (now (types .entry)))) (cursor .0) (nodes (now («node_words» .entry)) count) r (now («node_words» .exit)) ⌝ }
 {
     let dots = consume_optional(kinds, cursor, BaseToken::Dots);
@@ -599,7 +599,7 @@ fn rest_of_fields(
     unused: u32,
     name: TokenId,
 ) -> Parsed
-    requires { ⌜ Sized (now kinds) (now types) (now «node_words») (cursor .0) count × (name .0 ≤ Most.Load) ⌝ }
+    requires { ⌜ Sized (now kinds) (now types) (now «node_words») (cursor .0) count × (name .0 ≤ Limits.Load) ⌝ }
     ensures { λ r. ⌜ Gives (within (listed (structural (name .0))) unused (row (now (kinds .entry)) (now (types .entry)))) (cursor .0) (nodes (now («node_words» .entry)) count) r (now («node_words» .exit)) ⌝ }
 {
     let mut list = start_list();
@@ -713,7 +713,7 @@ fn deref_steps(
     depth: u32,
     name: TokenId,
 ) -> Parsed
-    requires { ⌜ Sized (now kinds) (now types) (now «node_words») (cursor .0) count × (start .0 ≤ Most.Load) × (depth ≤ Most.Load) × (name .0 ≤ Most.Load) ⌝ }
+    requires { ⌜ Sized (now kinds) (now types) (now «node_words») (cursor .0) count × (start .0 ≤ Limits.Load) × (depth ≤ Limits.Load) × (name .0 ≤ Limits.Load) ⌝ }
     ensures { λ r. ⌜ Gives (within (dereferring (start .0) depth (name .0)) unused (row (now (kinds .entry)) (now (types .entry)))) (cursor .0) (nodes (now («node_words» .entry)) count) r (now («node_words» .exit)) ⌝ }
 {
     let mut list = start_list();

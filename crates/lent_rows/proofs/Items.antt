@@ -16,11 +16,11 @@ use Rattle.codes.proofs.Onto.{stays, reads, shows, told, held, hands-on, came-r
 use Rattle.nodes.specs.declared.ActiveList.{ActiveList}
 use Rattle.nodes.specs.declared.Listed.{Listed}
 use Rattle.nodes.specs.declared.Listed.the-variants.{List as Items, Full}
-use Rattle.nodes.specs.Answer.{Slots, ends, listed, past}
+use Rattle.nodes.specs.Answer.{WithinSlots, ends, listed, past}
 use Rattle.nodes.proofs.Laws.{active-ends, came-listed, holding-listed, past-none}
 use Rattle.nodes.proofs.Bounds.{after-push, after-item, item-fits}
 use Rattle.buffer.specs.declared.ParseBuffer.{ParseBuffer}
-use Rattle.buffer.specs.Answer.{counted, relisted, Appends, Patches}
+use Rattle.buffer.specs.Answer.{counted, relisted, Appends, AppendsItem}
 use Rattle.lent_rows.specs.Lists.{item, items, Fits, Item, Records}
 
 -- two answers for an item are never both accepted and refused
@@ -37,10 +37,10 @@ module _ (token : ℕ) (list : ActiveList) {c count : ℕ} {ws : List ℕ} {r₁
   content-refused q = record { answer = hands-on _ stays (told g q); fits = λ e. full-is-none e }
 
   module _ {a : NodeId} {p : TokenId} {j : ℕ} (q : r₁ ≡ Node a p j) (z : Fits count list ws) where
-    after : Slots ws₁ j × (count ≤ j) × (p .0 ≡ c)
+    after : WithinSlots ws₁ j × (count ≤ j) × (p .0 ≡ c)
     after = after-push ParseNode.UntypedIntegerLiteral token g q (z .slots)
 
-    pub core-slots : Slots ws₁ j
+    pub core-slots : WithinSlots ws₁ j
     core-slots = after .0
 
     pub core-last : past list ≤ j
@@ -73,16 +73,16 @@ module _ (token : ℕ) {c : ℕ} {b : ParseBuffer} {ws : List ℕ} {r₁ : Parse
     counts : b₁ ≡ record { count = j; list = b .list }
     counts = g .buffer ∙ ap (counted b) q
 
-    pub record-slots : Slots ws₁ (b₁ .count)
+    pub record-slots : WithinSlots ws₁ (b₁ .count)
     record-slots =
-        subst (λ (x : ParseBuffer). Slots ws₁ (x .count)) (sym counts) (core-slots token (b .list) (g .node) q z)
+        subst (λ (x : ParseBuffer). WithinSlots ws₁ (x .count)) (sym counts) (core-slots token (b .list) (g .node) q z)
 
     pub record-last : past (b₁ .list) ≤ b₁ .count
     record-last =
         subst (λ (x : ParseBuffer). past (x .list) ≤ x .count) (sym counts) (core-last token (b .list) (g .node) q z)
 
     pub record-read :
-        {r : Listed} {b₂ : ParseBuffer} {ws₂ : List ℕ} → Patches (p .0) b₁ ws₁ r b₂ ws₂ →
+        {r : Listed} {b₂ : ParseBuffer} {ws₂ : List ℕ} → AppendsItem (p .0) b₁ ws₁ r b₂ ws₂ →
         Item token c (b .count) (b .list) ws r ws₂
     record-read {r} {ws₂ = ws₂} h =
         content-read token (b .list) (g .node) q z
@@ -92,7 +92,7 @@ module _ (token : ℕ) {c : ℕ} {b : ParseBuffer} {ws : List ℕ} {r₁ : Parse
 -- the record after an item
 pub records :
     {c : ℕ} {b : ParseBuffer} {ws : List ℕ} {r : Listed} {b′ : ParseBuffer} {ws′ : List ℕ} →
-    Patches c b ws r b′ ws′ → Records r b′
+    AppendsItem c b ws r b′ ws′ → Records r b′
 records {b = b} h = record { after = λ e. h .buffer ∙ ap (relisted b) e }
 
 pub no-record : (f : Parsed) (b : ParseBuffer) → Records (Full f) b
@@ -152,7 +152,7 @@ pub more-fits-core :
 more-fits-core i q = i .fits q
 
 -- a list that has no item yet
-pub none-fits : {l : ActiveList} {ws : List ℕ} → Slots ws 0 → ends l ≡ none → Fits 0 l ws
+pub none-fits : {l : ActiveList} {ws : List ℕ} → WithinSlots ws 0 → ends l ≡ none → Fits 0 l ws
 none-fits {l} z e = record { slots = z; last = rw (past-none l e) (omega arith) }
 
 pub from-none :

@@ -12,7 +12,7 @@ use Rattle.codes.specs.Words.{As, nodes}
 use Rattle.nodes.specs.declared.ActiveList.{ActiveList}
 use Rattle.nodes.specs.declared.Listed.{Listed}
 use Rattle.nodes.specs.declared.Listed.the-variants.{List as Items}
-use Rattle.nodes.specs.Answer.{Slots, ends, listed, past}
+use Rattle.nodes.specs.Answer.{WithinSlots, ends, listed, past}
 use Rattle.buffer.specs.declared.ParseBuffer.{ParseBuffer}
 
 -- an item: its content, an integer that is this token, and the item
@@ -30,7 +30,7 @@ items (suc n) token l = do
 
 -- what the core takes for granted
 pub record Fits (count : ℕ) (list : ActiveList) (ws : List ℕ) : Type 0 where
-  pub slots : Slots ws count
+  pub slots : WithinSlots ws count
   pub last : past list ≤ count
 
 -- an item's answer r, and the words after it, in which another item fits

@@ -2,7 +2,7 @@
 ghost use mathlib.Core.Bool.{true};
 ghost use mathlib.Core.Path.{_≡_};
 ghost use Prim.Native.Nat.{_≤_};
-ghost use Rattle.rules.specs.Codes.Limit as Most;
+ghost use Rattle.rules.specs.Codes.Limit as Limits;
 ghost use Rattle.codes.specs.Words.{Quiet};
 ghost use Rattle.tokens.specs.Answer.{consumed};
 ghost use Rattle.reader.specs.Answer.{ending};
@@ -22,16 +22,10 @@ pub struct Numbers {
     pub count: u32,
 }
 
-fn wide(byte: u8) -> u32
-    ensures { λ r. ⌜ r ≡ byte ⌝ }
-{
-    byte as u32
-}
-
 pub fn of_taken(taken: Taken) -> Numbers
     ensures { λ r. ⌜ r ≡ ofTaken taken ⌝ }
 {
-    let kind = wide(taken.kind);
+    let kind = taken.kind as u32;
     Numbers {
         number: 0,
         start: kind,
@@ -89,7 +83,7 @@ pub fn of_consumed(answer: Consumed) -> Numbers
 
 // An optional comma and the token that closes a list, by the core.
 pub fn end_by_core(kinds: &[u8], cursor: TokenId, count: u32, closing: u8) -> Consumed
-    requires { ⌜ cursor .0 ≤ Most.Tokens ⌝ }
+    requires { ⌜ cursor .0 ≤ Limits.Tokens ⌝ }
     ensures { λ r. ⌜ Quiet consumed (ending closing) (now (kinds .entry)) (cursor .0) count r ⌝ }
 {
     let comma = tokens::consume_optional(kinds, cursor, BaseToken::Comma);

@@ -1,13 +1,13 @@
 // A list of integers by the lent record, and by the core.
 ghost use mathlib.Core.Path.{_≡_};
 ghost use Prim.Native.Nat.{_+_, _≤_};
-ghost use Rattle.rules.specs.Codes.Limit as Most;
+ghost use Rattle.rules.specs.Codes.Limit as Limits;
 ghost use Rattle.codes.specs.Words.{Gives, nodes};
 ghost use mathlib.Core.Option.{none};
-ghost use Rattle.nodes.specs.Answer.{Slots, ends};
+ghost use Rattle.nodes.specs.Answer.{WithinSlots, ends};
 ghost use Rattle.lent_rows.specs.Lists.{items, Fits, Item, Records};
+use buffer::AppendedItem;
 use buffer::ParseBuffer;
-use buffer::Patched;
 use codes::ParseNode;
 use codes::Parsed;
 use codes::TokenId;
@@ -20,8 +20,8 @@ fn item_by_record(
     cursor: TokenId,
     buffer: ParseBuffer,
     token: u32,
-) -> Patched
-    requires { ⌜ Fits (buffer .count) (buffer .list) (now «node_words») × (token ≤ Most.Load) ⌝ }
+) -> AppendedItem
+    requires { ⌜ Fits (buffer .count) (buffer .list) (now «node_words») × (token ≤ Limits.Load) ⌝ }
     ensures item { λ r. ⌜ Item token (cursor .0) (buffer .count) (buffer .list) (now («node_words» .entry)) (r .reply)
         (now («node_words» .exit)) ⌝ }
     ensures buffer { λ r. ⌜ Records (r .reply) (r .buffer) ⌝ }
@@ -36,12 +36,12 @@ fn item_by_record(
         count: _,
     } = reply
     else {
-        return Patched {
+        return AppendedItem {
             reply: Listed::Full { refusal: reply },
             buffer: after,
         };
     };
-    buffer::patch_in(node_words, next, after)
+    buffer::append_item_to(node_words, next, after)
 }
 
 // The same by the core.
@@ -52,7 +52,7 @@ fn item_by_core(
     list: ActiveList,
     token: u32,
 ) -> Listed
-    requires { ⌜ Fits count list (now «node_words») × (token ≤ Most.Load) ⌝ }
+    requires { ⌜ Fits count list (now «node_words») × (token ≤ Limits.Load) ⌝ }
     ensures { λ r. ⌜ Item token (cursor .0) count list (now («node_words» .entry)) r (now («node_words» .exit)) ⌝ }
 {
     let kind = ParseNode::UntypedIntegerLiteral;
@@ -76,7 +76,7 @@ pub fn items_by_record(
     token: u32,
     left: u32,
 ) -> Parsed
-    requires { ⌜ Fits (buffer .count) (buffer .list) (now «node_words») × (token + left ≤ Most.Load + 1) ⌝ }
+    requires { ⌜ Fits (buffer .count) (buffer .list) (now «node_words») × (token + left ≤ Limits.Load + 1) ⌝ }
     ensures { λ r. ⌜ Gives (items left token (ends (buffer .list))) (cursor .0)
         (nodes (now («node_words» .entry)) (buffer .count)) r (now («node_words» .exit)) ⌝ }
 {
@@ -106,7 +106,7 @@ pub fn items_by_core(
     token: u32,
     left: u32,
 ) -> Parsed
-    requires { ⌜ Fits count list (now «node_words») × (token + left ≤ Most.Load + 1) ⌝ }
+    requires { ⌜ Fits count list (now «node_words») × (token + left ≤ Limits.Load + 1) ⌝ }
     ensures { λ r. ⌜ Gives (items left token (ends list)) (cursor .0) (nodes (now («node_words» .entry)) count) r
         (now («node_words» .exit)) ⌝ }
 {
@@ -126,7 +126,7 @@ pub fn items_by_core(
 
 // A list of so many items whose tokens are the first ones, by the lent record.
 pub fn list_by_record(node_words: &mut [u32], cursor: TokenId, length: u32) -> Parsed
-    requires { ⌜ Slots (now «node_words») 0 × (length ≤ Most.Load + 1) ⌝ }
+    requires { ⌜ WithinSlots (now «node_words») 0 × (length ≤ Limits.Load + 1) ⌝ }
     ensures { λ r. ⌜ Gives (items length 0 none) (cursor .0) (nodes (now («node_words» .entry)) 0) r
         (now («node_words» .exit)) ⌝ }
 {
@@ -137,7 +137,7 @@ pub fn list_by_record(node_words: &mut [u32], cursor: TokenId, length: u32) -> P
 
 // The same by the core.
 pub fn list_by_core(node_words: &mut [u32], cursor: TokenId, length: u32) -> Parsed
-    requires { ⌜ Slots (now «node_words») 0 × (length ≤ Most.Load + 1) ⌝ }
+    requires { ⌜ WithinSlots (now «node_words») 0 × (length ≤ Limits.Load + 1) ⌝ }
     ensures { λ r. ⌜ Gives (items length 0 none) (cursor .0) (nodes (now («node_words» .entry)) 0) r
         (now («node_words» .exit)) ⌝ }
 {

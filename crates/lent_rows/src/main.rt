@@ -6,7 +6,7 @@
 ghost use mathlib.Core.Path.{_≡_};
 ghost use Prim.Native.Nat.{_+_, _≤_};
 ghost use lib.ListN.{length};
-ghost use Rattle.row_text.specs.Most as Most;
+ghost use Rattle.row_text.specs.LineLimits as LineLimits;
 use answers::Numbers;
 use codes::Parsed;
 use codes::TokenId;
@@ -68,7 +68,7 @@ fn print_token(first: bool, kind: u8, ended: Numbers) {
 // The token at a place, looked at, taken and as a list's end, by the reader and by the core. The result is the next
 // place.
 fn show_token<'a>(kinds: &'a [u8], types: &'a [u8], at: u32, closing: u8) -> u32
-    requires { ⌜ at ≤ Most.Tokens ⌝ }
+    requires { ⌜ at ≤ LineLimits.Tokens ⌝ }
     ensures { λ r. ⌜ r ≡ at + 1 ⌝ }
 {
     let cursor = TokenId(at);
@@ -90,7 +90,7 @@ fn show_token<'a>(kinds: &'a [u8], types: &'a [u8], at: u32, closing: u8) -> u32
 
 // The tokens of a row, one after another.
 fn show_tokens<'a>(kinds: &'a [u8], types: &'a [u8], closing: u8)
-    requires { ⌜ length (now kinds) ≤ Most.Tokens ⌝ }
+    requires { ⌜ length (now kinds) ≤ LineLimits.Tokens ⌝ }
 {
     let mut at: u32 = 0;
     while (at as usize) < kinds.len() {
@@ -101,7 +101,7 @@ fn show_tokens<'a>(kinds: &'a [u8], types: &'a [u8], closing: u8)
 
 // The first tokens of the two columns.
 fn show<'a>(all_kinds: &'a [u8; TOKENS], all_types: &'a [u8; TOKENS], tokens: usize, closing: u8)
-    requires { ⌜ tokens ≤ Most.Tokens ⌝ }
+    requires { ⌜ tokens ≤ LineLimits.Tokens ⌝ }
 {
     let kinds: &[u8] = all_kinds;
     let types: &[u8] = all_types;
@@ -140,7 +140,7 @@ fn show_line(line: &[u8]) {
 fn show_lines(input: &[u8]) {
     let mut from: usize = 0;
     while from < input.len() {
-        let end = row_text::find(input, from, b'\n');
+        let end = lines::find(input, from, b'\n');
         show_line(&input[from..end]);
         from = end + 1;
     }

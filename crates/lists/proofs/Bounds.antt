@@ -12,7 +12,7 @@ use Rattle.codes.specs.declared.TokenId.{TokenId}
 use Rattle.codes.specs.Words.{Gives, nodes}
 use Rattle.codes.proofs.Onto.{Onto, split, plain-parsed}
 use Rattle.codes.proofs.Loops.{heldIn, same-held}
-use Rattle.nodes.specs.Answer.{Slots, active, past}
+use Rattle.nodes.specs.Answer.{WithinSlots, active, past}
 use Rattle.nodes.proofs.Bounds.{slots-after, item-fits}
 use Rattle.lists.specs.Answer.{Counted, linking}
 use Rattle.rules.specs.Codes.{pick}
@@ -78,7 +78,7 @@ small-kind h e = (rw e at h) .1
 pub link-slots :
     {ns : List ℕ} (l : Option Ends) {c k : ℕ} {r : Parsed} {ns' : List ℕ} →
     Gives (linking l) c (nodes ns k) r ns' → {n : NodeId} {p : TokenId} {j : ℕ} → r ≡ Node n p j →
-    Slots ns k → Slots ns' j
+    WithinSlots ns k → WithinSlots ns' j
 unfolding linking
 link-slots l {c = c} g q z =
     slots-after plain-parsed

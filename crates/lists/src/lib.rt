@@ -1,11 +1,12 @@
-// Lists with commas: arguments, fields and elements, after parse_arguments and parse_fields of the Rust's parser.rs.
+// Lists with commas: arguments, fields and elements, after parse_rest_of_arguments, parse_rest_of_structural and the
+// brackets of parse_primary_expression in the Rust's parser.rs.
 ghost use mathlib.Core.Path.{_≡_};
 ghost use Prim.Native.Nat.{_+_, _≤_};
-ghost use Rattle.rules.specs.Codes.Limit as Most;
+ghost use Rattle.rules.specs.Codes.Limit as Limits;
 ghost use Rattle.rules.specs.Words.{words};
 ghost use Rattle.rules.specs.Expressions.{structural, closingOf, owned, listEnd};
 ghost use Rattle.codes.specs.Words.{Gives, Untyped, Quiet, nodes};
-ghost use Rattle.nodes.specs.Answer.{Slots, ends, past};
+ghost use Rattle.nodes.specs.Answer.{WithinSlots, ends, past};
 ghost use Rattle.lists.specs.Answer.{Small, ownerOf, turned, closingWith, separating, ending, fieldEnd, shorthandEnd, linking};
 use codes::BaseToken;
 use codes::NodeId;
@@ -71,7 +72,7 @@ fn close_list(
     items: u32,
     closing: u8,
 ) -> Turn
-    requires { ⌜ cursor .0 ≤ Most.Tokens + 1 ⌝ }
+    requires { ⌜ cursor .0 ≤ Limits.Tokens + 1 ⌝ }
     ensures { λ r. ⌜ Quiet turned (closingWith closing (ends list, items)) (now (kinds .entry)) (cursor .0) count r ⌝ }
 {
     match consume(kinds, cursor, count, closing) {
@@ -98,7 +99,7 @@ fn parse_separator(
     items: u32,
     closing: u8,
 ) -> Turn
-    requires { ⌜ cursor .0 ≤ Most.Tokens + 1 ⌝ }
+    requires { ⌜ cursor .0 ≤ Limits.Tokens + 1 ⌝ }
     ensures { λ r. ⌜ Quiet turned (separating closing (ends list, items)) (now (kinds .entry)) (cursor .0) count r ⌝ }
 {
     let comma = consume_optional(kinds, cursor, BaseToken::Comma);
@@ -133,7 +134,7 @@ pub fn finish_item(
     closing: u8,
     content: NodeId,
 ) -> Turn
-    requires { ⌜ (cursor .0 ≤ Most.Tokens + 1) × Slots (now «node_words») count × (past list ≤ count) × (items ≤ count) ⌝ }
+    requires { ⌜ (cursor .0 ≤ Limits.Tokens + 1) × WithinSlots (now «node_words») count × (past list ≤ count) × (items ≤ count) ⌝ }
     ensures { λ r. ⌜ Untyped turned (ending closing (ends list, items) (content .0)) (now (kinds .entry)) (cursor .0) (nodes (now («node_words» .entry)) count) r (now («node_words» .exit)) ⌝ }
 {
     match push_list_item(node_words, cursor, count, list) {
@@ -157,7 +158,7 @@ pub fn finish_field(
     name: TokenId,
     expression: NodeId,
 ) -> Turn
-    requires { ⌜ (cursor .0 ≤ Most.Tokens + 1) × Slots (now «node_words») count × (past list ≤ count) × (items ≤ count) × (name .0 ≤ Most.Load) ⌝ }
+    requires { ⌜ (cursor .0 ≤ Limits.Tokens + 1) × WithinSlots (now «node_words») count × (past list ≤ count) × (items ≤ count) × (name .0 ≤ Limits.Load) ⌝ }
     ensures { λ r. ⌜ Untyped turned (fieldEnd (ends list, items) (name .0) (expression .0)) (now (kinds .entry)) (cursor .0) (nodes (now («node_words» .entry)) count) r (now («node_words» .exit)) ⌝ }
 {
     let kind = ParseNode::IdentifierAndExpression;
@@ -193,7 +194,7 @@ pub fn finish_shorthand(
     items: u32,
     name: TokenId,
 ) -> Turn
-    requires { ⌜ (cursor .0 ≤ Most.Tokens + 1) × Slots (now «node_words») count × (past list ≤ count) × (items ≤ count) × (name .0 ≤ Most.Load) ⌝ }
+    requires { ⌜ (cursor .0 ≤ Limits.Tokens + 1) × WithinSlots (now «node_words») count × (past list ≤ count) × (items ≤ count) × (name .0 ≤ Limits.Load) ⌝ }
     ensures { λ r. ⌜ Untyped turned (shorthandEnd (ends list, items) (name .0)) (now (kinds .entry)) (cursor .0) (nodes (now («node_words» .entry)) count) r (now («node_words» .exit)) ⌝ }
 {
     let reference = push_name(node_words, cursor, count, name);
@@ -226,7 +227,7 @@ fn push_owner(
     items: u32,
     list: NodeId,
 ) -> Parsed
-    requires { ⌜ Slots (now «node_words») count × Small owner × (items ≤ Most.Load) ⌝ }
+    requires { ⌜ WithinSlots (now «node_words») count × Small owner × (items ≤ Limits.Load) ⌝ }
     ensures { λ r. ⌜ Gives (owned words (ownerOf owner) items (list .0)) (cursor .0) (nodes (now («node_words» .entry)) count) r (now («node_words» .exit)) ⌝ }
 {
     match owner {
@@ -247,7 +248,7 @@ fn push_owner(
 
 // The end of a list, and the link to it.
 fn link_list(node_words: &mut [u32], cursor: TokenId, count: u32, list: ActiveList) -> Parsed
-    requires { ⌜ Slots (now «node_words») count × (past list ≤ count) ⌝ }
+    requires { ⌜ WithinSlots (now «node_words») count × (past list ≤ count) ⌝ }
     ensures { λ r. ⌜ Gives (linking (ends list)) (cursor .0) (nodes (now («node_words» .entry)) count) r (now («node_words» .exit)) ⌝ }
 {
     let ended = push_end_of_list(node_words, cursor, count, list);
@@ -271,7 +272,7 @@ pub fn finish_list(
     items: u32,
     owner: Owner,
 ) -> Parsed
-    requires { ⌜ Slots (now «node_words») count × (past list ≤ count) × Small owner × (items ≤ Most.Load) ⌝ }
+    requires { ⌜ WithinSlots (now «node_words») count × (past list ≤ count) × Small owner × (items ≤ Limits.Load) ⌝ }
     ensures { λ r. ⌜ Gives (listEnd words (ownerOf owner) (ends list, items)) (cursor .0) (nodes (now («node_words» .entry)) count) r (now («node_words» .exit)) ⌝ }
 {
     let linked = link_list(node_words, cursor, count, list);
@@ -295,7 +296,7 @@ pub fn finish_fields(
     items: u32,
     name: TokenId,
 ) -> Parsed
-    requires { ⌜ Slots (now «node_words») count × (past list ≤ count) × (name .0 ≤ Most.Load) ⌝ }
+    requires { ⌜ WithinSlots (now «node_words») count × (past list ≤ count) × (name .0 ≤ Limits.Load) ⌝ }
     ensures { λ r. ⌜ Gives (listEnd words (structural (name .0)) (ends list, items)) (cursor .0) (nodes (now («node_words» .entry)) count) r (now («node_words» .exit)) ⌝ }
 {
     let linked = link_list(node_words, cursor, count, list);

@@ -2,11 +2,11 @@
 ghost use mathlib.Core.Path.{_≡_};
 ghost use Prim.Native.Nat.{_+_, _≤_};
 ghost use lib.ListN.{length};
-ghost use Rattle.rules.specs.Codes.Limit as Most;
+ghost use Rattle.rules.specs.Codes.Limit as Limits;
 ghost use Rattle.codes.specs.Answer.{parsed};
-ghost use Rattle.codes.specs.Words.{Untyped, Sized, nodes};
-ghost use Rattle.nodes.specs.Answer.{Slots};
-ghost use Rattle.literals.specs.Answer.{Ending, Unkinded, Literal, Lone, ends, joining, suffixed};
+ghost use Rattle.codes.specs.Words.{Untyped, Sized, nodes, Unkinded};
+ghost use Rattle.nodes.specs.Answer.{WithinSlots};
+ghost use Rattle.literals.specs.Answer.{Ending, Literal, Lone, ends, joining, suffixed};
 use codes::BaseToken;
 use codes::ParseNode;
 use codes::Parsed;
@@ -19,8 +19,8 @@ use tokens::peek;
 
 // The place after further strings.
 fn end_of_strings(kinds: &[u8], cursor: TokenId) -> TokenId
-    requires { ⌜ (cursor .0 ≤ Most.Tokens + 1) × (length (now kinds) ≤ Most.Tokens) ⌝ }
-    ensures { λ r. ⌜ Ending (now (kinds .entry)) (cursor .0) r × (r .0 ≤ Most.Load) ⌝ }
+    requires { ⌜ (cursor .0 ≤ Limits.Tokens + 1) × (length (now kinds) ≤ Limits.Tokens) ⌝ }
+    ensures { λ r. ⌜ Ending (now (kinds .entry)) (cursor .0) r × (r .0 ≤ Limits.Load) ⌝ }
 {
     let mut at = cursor.0;
     loop {
@@ -41,7 +41,7 @@ fn parse_strings(
     count: u32,
     start: TokenId,
 ) -> Parsed
-    requires { ⌜ (cursor .0 ≤ Most.Tokens + 1) × (length (now kinds) ≤ Most.Tokens) × Slots (now «node_words») count × (start .0 ≤ Most.Load) ⌝ }
+    requires { ⌜ (cursor .0 ≤ Limits.Tokens + 1) × (length (now kinds) ≤ Limits.Tokens) × WithinSlots (now «node_words») count × (start .0 ≤ Limits.Load) ⌝ }
     ensures { λ r. ⌜ Untyped parsed (joining (start .0)) (now (kinds .entry)) (cursor .0) (nodes (now («node_words» .entry)) count) r (now («node_words» .exit)) ⌝ }
 {
     let second = consume_optional(kinds, cursor, BaseToken::StringLiteral);
@@ -75,8 +75,8 @@ fn push_typed_integer(
     count: u32,
     at: TokenId,
 ) -> Parsed
-    requires { ⌜ Slots (now «node_words») count × (at .0 ≤ Most.Load) ⌝ }
-    ensures { λ r. ⌜ Unkinded (suffixed (at .0)) (now (types .entry)) (cursor .0) (nodes (now («node_words» .entry)) count) r (now («node_words» .exit)) ⌝ }
+    requires { ⌜ WithinSlots (now «node_words») count × (at .0 ≤ Limits.Load) ⌝ }
+    ensures { λ r. ⌜ Unkinded parsed (suffixed (at .0)) (now (types .entry)) (cursor .0) (nodes (now («node_words» .entry)) count) r (now («node_words» .exit)) ⌝ }
 {
     let value_type = peek(types, at);
     push_two(
@@ -149,7 +149,7 @@ fn ends_expression(token: u8) -> bool
 
 // Whether an integer without a type stands here and such a token after it: then it is the whole expression.
 pub fn lone_integer(kinds: &[u8], cursor: TokenId) -> bool
-    requires { ⌜ cursor .0 ≤ Most.Tokens ⌝ }
+    requires { ⌜ cursor .0 ≤ Limits.Tokens ⌝ }
     ensures { λ r. ⌜ Lone (now (kinds .entry)) (cursor .0) r ⌝ }
 {
     let next = TokenId(cursor.0 + 1);

@@ -17,7 +17,7 @@ use Rattle.codes.proofs.Onto.{Onto, Plain, came-read, moved, plain-parsed}
 use Rattle.nodes.specs.declared.ActiveList.{ActiveList}
 use Rattle.nodes.specs.declared.Listed.{Listed}
 use Rattle.nodes.specs.declared.Listed.the-variants.{List as Items}
-use Rattle.nodes.specs.Answer.{Slots, ends, active, past, listed, appendTwo}
+use Rattle.nodes.specs.Answer.{WithinSlots, ends, active, past, listed, appendTwo}
 use Rattle.nodes.proofs.Laws.{active-ends, holding-listed}
 use Rattle.rules.specs.Codes.Limit as Limit
 use Rattle.rules.specs.Codes.Refusal as Refusal
@@ -27,18 +27,18 @@ use Rattle.rules.specs.Lists as Lists
 use Rattle.rules.specs.Words.{Words, append, patch, pushListItem, pushEndOfList}
 use Rattle.rules.proofs.Forward.{Goes, _then_, eased, appends, items, closes}
 
-pub slots : {tk tv ns : List ℕ} {c k : ℕ} → Sized tk tv ns c k → Slots ns k
+pub slots : {tk tv ns : List ℕ} {c k : ℕ} → Sized tk tv ns c k → WithinSlots ns k
 slots z = record { slots = z .slots; used = z .used }
 
 -- no node was appended
-pub same-slots : {ns : List ℕ} {k j : ℕ} → j ≡ k → Slots ns k → Slots ns j
+pub same-slots : {ns : List ℕ} {k j : ℕ} → j ≡ k → WithinSlots ns k → WithinSlots ns j
 same-slots e z = rw e z
 
 -- after a rule that read something: the slots, no fewer nodes than before, and what the rule leaves
 pub slots-after :
     {A R : Type 0} {F : Form A R} → Plain F → {m : Rule Words A} {n c : ℕ} {Q : A → ℕ → Type 0} → Goes n m c Q → c ≤ n →
     {ns : List ℕ} {k : ℕ} {r : R} {ns' : List ℕ} → As F m c (nodes ns k) r ns' →
-    {a : A} {p j : ℕ} → r ≡ F .read a p j → Slots ns k → Slots ns' j × (k ≤ j) × Q a p
+    {a : A} {p j : ℕ} → r ≡ F .read a p j → WithinSlots ns k → WithinSlots ns' j × (k ≤ j) × Q a p
 slots-after P h b g q z =
     let (_, e, w) = moved (came-read P g q) h (z .used) b in (
       record { slots = rw (w .slots) (z .slots); used = w .fits },
@@ -50,11 +50,11 @@ slots-after P h b g q z =
 module _
     {ns : List ℕ} (kind load : ℕ) {c k : ℕ} {r : Parsed} {ns' : List ℕ}
     (g : Gives (append kind load) c (nodes ns k) r ns') {n : NodeId} {p : TokenId} {j : ℕ} (q : r ≡ Node n p j)
-    (z : Slots ns k) where
-  pub after-push : Slots ns' j × (k ≤ j) × (p .0 ≡ c)
+    (z : WithinSlots ns k) where
+  pub after-push : WithinSlots ns' j × (k ≤ j) × (p .0 ≡ c)
   after-push = slots-after plain-parsed (appends {n = c} kind load) (omega arith) g q z
 
-  pub push-slots : Slots ns' j
+  pub push-slots : WithinSlots ns' j
   push-slots = after-push .0
 
 -- a node's number fits a load
@@ -95,14 +95,14 @@ append-last kind load {c} {s} {n} {c'} {s'} e = go (ltb (s .count) (length (s .w
 pub push-root :
     {ns : List ℕ} (kind load : ℕ) {c k : ℕ} {r : Parsed} {ns' : List ℕ} →
     Gives (append kind load) c (nodes ns k) r ns' → {n : NodeId} {p : TokenId} {j : ℕ} → r ≡ Node n p j →
-    Slots ns k → n .0 ≤ Limit.Load
+    WithinSlots ns k → n .0 ≤ Limit.Load
 push-root kind load g q z = let e = append-root kind load (came-read plain-parsed g q) in omega arith
 
 -- after two
 pub two-slots :
     {ns : List ℕ} (kind load kind' load' : ℕ) {c k : ℕ} {r : Parsed} {ns' : List ℕ} →
     Gives (appendTwo kind load kind' load') c (nodes ns k) r ns' → {n : NodeId} {p : TokenId} {j : ℕ} →
-    r ≡ Node n p j → Slots ns k → Slots ns' j
+    r ≡ Node n p j → WithinSlots ns k → WithinSlots ns' j
 unfolding appendTwo
 two-slots kind load kind' load' {c = c} g q z =
     slots-after plain-parsed
@@ -113,7 +113,7 @@ two-slots kind load kind' load' {c = c} g q z =
 pub end-slots :
     {ns : List ℕ} (l : Option Ends) {c k : ℕ} {r : Parsed} {ns' : List ℕ} →
     Gives (pushEndOfList l) c (nodes ns k) r ns' → {n : NodeId} {p : TokenId} {j : ℕ} → r ≡ Node n p j →
-    Slots ns k → Slots ns' j
+    WithinSlots ns k → WithinSlots ns' j
 end-slots l {c = c} g q z = slots-after plain-parsed (closes {n = c} l) (omega arith) g q z .0
 
 -- and so does the first item of a list, or its end
@@ -142,7 +142,7 @@ end-first l {c} {s} {n} {c'} {s'} e h = go l (ltb (s .count) (length (s .words))
 pub end-root :
     {ns : List ℕ} (l : ActiveList) {c k : ℕ} {r : Parsed} {ns' : List ℕ} →
     Gives (pushEndOfList (ends l)) c (nodes ns k) r ns' → {n : NodeId} {p : TokenId} {j : ℕ} → r ≡ Node n p j →
-    Slots ns k → past l ≤ k → n .0 ≤ Limit.Load
+    WithinSlots ns k → past l ≤ k → n .0 ≤ Limit.Load
 end-root l g q z h =
     let h' = rw (← active-ends l) at h in
     let e = end-first (ends l) (came-read plain-parsed g q) h' in
@@ -152,7 +152,7 @@ end-root l g q z h =
 pub after-item :
     {ns : List ℕ} (l : Option Ends) {c k : ℕ} {o : Listed} {ns' : List ℕ} →
     As listed (pushListItem l) c (nodes ns k) o ns' → {m : ActiveList} {p : TokenId} {j : ℕ} → o ≡ Items m p j →
-    Slots ns k → Slots ns' j × (k ≤ j) × (p .0 ≡ c)
+    WithinSlots ns k → WithinSlots ns' j × (k ≤ j) × (p .0 ≡ c)
 after-item l {c = c} g {m} {p} {j} q z =
     slots-after (holding-listed .plain) (items {n = c} l) (omega arith) g {a = ends m}
     (q ∙ ap (λ (x : ActiveList). Items x p j) (sym (active-ends m))) z

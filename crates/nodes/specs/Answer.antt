@@ -15,7 +15,7 @@ use Rattle.rules.specs.Lists.{Ends}
 use Rattle.rules.specs.Words.{Words, append}
 
 -- What is taken for granted of the node column and of the node count.
-pub record Slots (ws : List ℕ) (count : ℕ) : Type 0 where
+pub record WithinSlots (ws : List ℕ) (count : ℕ) : Type 0 where
   pub slots : length ws ≤ Limit.Slots
   pub used : count ≤ length ws
 

@@ -4,11 +4,11 @@ ghost use mathlib.Core.Option.{none};
 ghost use mathlib.Core.Path.{_≡_};
 ghost use Prim.Native.Nat.{_≤_, _<_};
 ghost use lib.ListN.{length, set};
-ghost use Rattle.rules.specs.Codes.Limit as Most;
+ghost use Rattle.rules.specs.Codes.Limit as Limits;
 ghost use Rattle.rules.specs.Codes.ParseNode as Kind;
 ghost use Rattle.rules.specs.Words.{packed, append, pushListItem, pushEndOfList};
 ghost use Rattle.codes.specs.Words.{As, Gives, nodes};
-ghost use Rattle.nodes.specs.Answer.{listed, ends, past, Slots, appendTwo};
+ghost use Rattle.nodes.specs.Answer.{listed, ends, past, WithinSlots, appendTwo};
 use codes::NodeId;
 use codes::ParseNode;
 use codes::Parsed;
@@ -35,7 +35,7 @@ pub enum Listed {
 
 // A node is appended.
 pub fn push(node_words: &mut [u32], cursor: TokenId, count: u32, kind: u8, load: u32) -> Parsed
-    requires { ⌜ Slots (now «node_words») count × (load ≤ Most.Load) ⌝ }
+    requires { ⌜ WithinSlots (now «node_words») count × (load ≤ Limits.Load) ⌝ }
     ensures { λ r. ⌜ Gives (append kind load) (cursor .0) (nodes (now («node_words» .entry)) count) r (now («node_words» .exit)) ⌝ }
 {
     let at = count as usize;
@@ -67,7 +67,7 @@ pub fn push_two(
     second_kind: u8,
     second_load: u32,
 ) -> Parsed
-    requires { ⌜ Slots (now «node_words») count × (load ≤ Most.Load) × («second_load» ≤ Most.Load) ⌝ }
+    requires { ⌜ WithinSlots (now «node_words») count × (load ≤ Limits.Load) × («second_load» ≤ Limits.Load) ⌝ }
     ensures { λ r. ⌜ Gives (appendTwo kind load «second_kind» «second_load») (cursor .0) (nodes (now («node_words» .entry)) count) r (now («node_words» .exit)) ⌝ }
 {
     let first = push(node_words, cursor, count, kind, load);
@@ -84,7 +84,7 @@ pub fn push_two(
 
 // A node that links to one before it.
 pub fn push_older_node(node_words: &mut [u32], cursor: TokenId, count: u32, node: NodeId) -> Parsed
-    requires { ⌜ Slots (now «node_words») count × (node .0 ≤ Most.Load) ⌝ }
+    requires { ⌜ WithinSlots (now «node_words») count × (node .0 ≤ Limits.Load) ⌝ }
     ensures { λ r. ⌜ Gives (append Kind.Item (node .0)) (cursor .0) (nodes (now («node_words» .entry)) count) r (now («node_words» .exit)) ⌝ }
 {
     push(node_words, cursor, count, ParseNode::Item, node.0)
@@ -92,7 +92,7 @@ pub fn push_older_node(node_words: &mut [u32], cursor: TokenId, count: u32, node
 
 // A node that links to a list's first item, or to its end where it has none.
 pub fn push_list(node_words: &mut [u32], cursor: TokenId, count: u32, first: NodeId) -> Parsed
-    requires { ⌜ Slots (now «node_words») count × (first .0 ≤ Most.Load) ⌝ }
+    requires { ⌜ WithinSlots (now «node_words») count × (first .0 ≤ Limits.Load) ⌝ }
     ensures { λ r. ⌜ Gives (append Kind.List (first .0)) (cursor .0) (nodes (now («node_words» .entry)) count) r (now («node_words» .exit)) ⌝ }
 {
     push(node_words, cursor, count, ParseNode::List, first.0)
@@ -100,7 +100,7 @@ pub fn push_list(node_words: &mut [u32], cursor: TokenId, count: u32, first: Nod
 
 // The item links to the node that follows it.
 fn patch_list_item(node_words: &mut [u32], item: NodeId, next: NodeId)
-    requires { ⌜ (item .0 < length (now «node_words»)) × (next .0 ≤ Most.Load) ⌝ }
+    requires { ⌜ (item .0 < length (now «node_words»)) × (next .0 ≤ Limits.Load) ⌝ }
     ensures { λ r. ⌜ now («node_words» .exit) ≡ set (now («node_words» .entry)) (item .0) (packed Kind.ListItem (next .0)) ⌝ }
 {
     let at = item.0 as usize;
@@ -121,7 +121,7 @@ pub fn push_list_item(
     count: u32,
     list: ActiveList,
 ) -> Listed
-    requires { ⌜ Slots (now «node_words») count × (past list ≤ count) ⌝ }
+    requires { ⌜ WithinSlots (now «node_words») count × (past list ≤ count) ⌝ }
     ensures { λ r. ⌜ As listed (pushListItem (ends list)) (cursor .0) (nodes (now («node_words» .entry)) count) r (now («node_words» .exit)) ⌝ }
 {
     let item = push(node_words, cursor, count, ParseNode::UnpatchedListItem, 0);
@@ -160,7 +160,7 @@ pub fn push_end_of_list(
     count: u32,
     list: ActiveList,
 ) -> Parsed
-    requires { ⌜ Slots (now «node_words») count × (past list ≤ count) ⌝ }
+    requires { ⌜ WithinSlots (now «node_words») count × (past list ≤ count) ⌝ }
     ensures { λ r. ⌜ Gives (pushEndOfList (ends list)) (cursor .0) (nodes (now («node_words» .entry)) count) r (now («node_words» .exit)) ⌝ }
 {
     let end = push(node_words, cursor, count, ParseNode::NoMoreItems, 0);

@@ -82,7 +82,9 @@ Opens m kinds start c count (Refused r) =
     (types : List ℕ) (expr : Rule Words ℕ) (ks : List ℕ) →
     Gives (m (row kinds types) expr) c (nodes ks count) r ks
 
--- The same of a primary, or of a reference after a pipe: but a literal is read from the cursor on.
+-- The same of a primary, or of a reference after a pipe: but a literal is read from the cursor on. Which opening is
+-- answered is free where the rules go on alike from two: a name without steps is a name alone, or a reference with no
+-- ampersand; a token that begins no primary is left to the literals, or refused.
 unfoldable pub Starts : Bool → List ℕ → ℕ → ℕ → Opening → Type 0
 Starts piped kinds c count (Literal t) = Plain kinds c t × (piped ≡ false)
 Starts piped kinds c count (Items p j owner) = Opens (primaryOr piped) kinds c c count (Items p j owner)

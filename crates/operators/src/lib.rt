@@ -2,12 +2,12 @@
 // parse_rest_of_bitshift_operation, parse_multiplication and parse_unary_expression of the Rust's parser.rs.
 ghost use mathlib.Core.Path.{_≡_};
 ghost use Prim.Native.Nat.{_+_, _≤_};
-ghost use Rattle.rules.specs.Codes.Limit as Most;
+ghost use Rattle.rules.specs.Codes.Limit as Limits;
 ghost use Rattle.rules.specs.Words.{words};
 ghost use Rattle.rules.specs.Expressions.{first, binary, prefix, joinedTo, takesUnary};
 ghost use Rattle.codes.specs.Words.{Gives, Untyped, nodes};
-ghost use Rattle.nodes.specs.Answer.{Slots};
-ghost use Rattle.operators.specs.Answer.{Fits, Next, pend, meaning, joint, factors, terms, followers, among, afterOperand, factorJoined, termJoined};
+ghost use Rattle.nodes.specs.Answer.{WithinSlots};
+ghost use Rattle.operators.specs.Answer.{Fits, Next, pend, meaning, joint, factorOperators, termOperators, followers, among, afterOperand, factorJoined, termJoined};
 use codes::BaseToken;
 use codes::BinaryOp;
 use codes::NodeId;
@@ -82,7 +82,7 @@ pub fn push_binary(
     at: TokenId,
     right: NodeId,
 ) -> Parsed
-    requires { ⌜ Slots (now «node_words») count × (left .0 ≤ Most.Load) × (op ≤ Most.Load) × (at .0 ≤ Most.Load) ⌝ }
+    requires { ⌜ WithinSlots (now «node_words») count × (left .0 ≤ Limits.Load) × (op ≤ Limits.Load) × (at .0 ≤ Limits.Load) ⌝ }
     ensures { λ r. ⌜ Gives (binary words (at .0) op (left .0) (right .0)) (cursor .0) (nodes (now («node_words» .entry)) count) r (now («node_words» .exit)) ⌝ }
 {
     let item = push_older_node(node_words, cursor, count, left);
@@ -114,7 +114,7 @@ fn push_pending(
     right: NodeId,
     pending: Pending,
 ) -> Parsed
-    requires { ⌜ Slots (now «node_words») count × Fits pending ⌝ }
+    requires { ⌜ WithinSlots (now «node_words») count × Fits pending ⌝ }
     ensures { λ r. ⌜ Gives (joinedTo words (pend pending) (right .0)) (cursor .0) (nodes (now («node_words» .entry)) count) r (now («node_words» .exit)) ⌝ }
 {
     let op = pending.op;
@@ -133,7 +133,7 @@ fn push_pending(
 
 // The operator of a product that this token is, if it is one. Rust: parse_multiplication.
 fn factor_operator(token: u8) -> u32
-    ensures { λ r. ⌜ r ≡ among factors token ⌝ }
+    ensures { λ r. ⌜ r ≡ among factorOperators token ⌝ }
 {
     match token {
         BaseToken::Times => BinaryOp::Multiply,
@@ -145,7 +145,7 @@ fn factor_operator(token: u8) -> u32
 
 // The operator of a sum or after it that this token is, if it is one. Rust: parse_addition.
 fn term_operator(token: u8) -> u32
-    ensures { λ r. ⌜ r ≡ among terms token ⌝ }
+    ensures { λ r. ⌜ r ≡ among termOperators token ⌝ }
 {
     match token {
         BaseToken::Ampersand => BinaryOp::BitwiseAnd,
@@ -179,7 +179,7 @@ fn next_operator(before: u32, token: u8) -> u32
 
 // The operator, if there is one, whose token stands at the cursor, with what stands left of it.
 fn after_operand(cursor: TokenId, count: u32, left: NodeId, op: u32) -> Joint
-    requires { ⌜ cursor .0 ≤ Most.Tokens + 1 ⌝ }
+    requires { ⌜ cursor .0 ≤ Limits.Tokens + 1 ⌝ }
     ensures { λ r. ⌜ r ≡ afterOperand cursor count left op ⌝ }
 {
     if op == NO_OPERATOR {
@@ -211,7 +211,7 @@ pub fn join_factor(
     right: NodeId,
     pending: Pending,
 ) -> Joint
-    requires { ⌜ Slots (now «node_words») count × (cursor .0 ≤ Most.Tokens + 1) × (right .0 ≤ Most.Load) × Fits pending ⌝ }
+    requires { ⌜ WithinSlots (now «node_words») count × (cursor .0 ≤ Limits.Tokens + 1) × (right .0 ≤ Limits.Load) × Fits pending ⌝ }
     ensures { λ r. ⌜ Untyped joint (factorJoined (pend pending) (right .0)) (now (kinds .entry)) (cursor .0) (nodes (now («node_words» .entry)) count) (meaning r) (now («node_words» .exit)) × Next r ⌝ }
 {
     let whole = push_pending(node_words, cursor, count, right, pending);
@@ -236,7 +236,7 @@ pub fn join_term(
     right: NodeId,
     pending: Pending,
 ) -> Joint
-    requires { ⌜ Slots (now «node_words») count × (cursor .0 ≤ Most.Tokens + 1) × (right .0 ≤ Most.Load) × Fits pending ⌝ }
+    requires { ⌜ WithinSlots (now «node_words») count × (cursor .0 ≤ Limits.Tokens + 1) × (right .0 ≤ Limits.Load) × Fits pending ⌝ }
     ensures { λ r. ⌜ Untyped joint (termJoined (pend pending) (right .0)) (now (kinds .entry)) (cursor .0) (nodes (now («node_words» .entry)) count) (meaning r) (now («node_words» .exit)) × Next r ⌝ }
 {
     let whole = push_pending(node_words, cursor, count, right, pending);
@@ -261,7 +261,7 @@ pub fn push_prefix(
     at: TokenId,
     operand: NodeId,
 ) -> Parsed
-    requires { ⌜ Slots (now «node_words») count × (op ≤ Most.Load) × (at .0 ≤ Most.Load) ⌝ }
+    requires { ⌜ WithinSlots (now «node_words») count × (op ≤ Limits.Load) × (at .0 ≤ Limits.Load) ⌝ }
     ensures { λ r. ⌜ Gives (prefix words (at .0) op (operand .0)) (cursor .0) (nodes (now («node_words» .entry)) count) r (now («node_words» .exit)) ⌝ }
 {
     let operator = push(node_words, cursor, count, ParseNode::UnaryOp, op);

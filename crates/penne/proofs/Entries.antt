@@ -9,10 +9,11 @@ use Rattle.codes.specs.declared.Parsed.{Parsed}
 use Rattle.codes.specs.declared.TokenId.{TokenId}
 use Rattle.codes.specs.Answer.{Gives, nodes, row, refusal}
 use Rattle.codes.specs.Words as Core
-use Rattle.penne.specs.declared.Checked.{Checked}
-use Rattle.penne.specs.declared.Checked.the-variants.{Passed, Failed}
-use Rattle.penne.specs.Answer.{checkOf, Splits, Split}
-use Rattle.penne.specs.Checks.{Check, inputCheck, declarationCheck, wordDeclarationCheck}
+use Rattle.checks.specs.declared.Checked.{Checked}
+use Rattle.checks.specs.declared.Checked.the-variants.{Passed, Failed}
+use Rattle.checks.specs.Answer.{checkOf}
+use Rattle.penne.specs.Answer.{Splits, Split}
+use Rattle.checks.specs.Checks.{Check, inputCheck, declarationCheck, wordDeclarationCheck}
 use Rattle.penne.specs.Promise.{countOf, Promise}
 use Rattle.penne.specs.Promise.{Expression, Type', Constant, Struct, Word}
 use Rattle.penne.specs.Words.{Unpacked, ExpressionWords, TypeWords, ConstantWords, StructWords, WordWords}
@@ -27,7 +28,8 @@ use Rattle.rules.specs.Declarations.{constant, struct, word}
 use Rattle.rules.specs.Demand as Demand
 use Rattle.rules.proofs.Demand.{types, expressions, constants, structs, words}
 use Rattle.rules.proofs.Demand.{type-agrees, expression-agrees, constant-agrees, struct-agrees, word-agrees}
-use Rattle.penne.proofs.Checks.{Entered, declaration-entered, input-entered, word-entered, words-check}
+use Rattle.checks.proofs.Laws.{Entered, declaration-entered, input-entered, word-entered, words-check}
+use Rattle.checks.proofs.Laws.{Listed, input-listed, declaration-listed, word-listed}
 use Rattle.penne.proofs.Promises.{check-refused, columns-given, others, replied-fits, rule-followed, same-slots}
 
 -- The promise of an entry whose check passed, of what its reader with words gives: over columns, whose loads were the words
@@ -139,21 +141,22 @@ abbrev wording : Row → ℕ → ℕ → ℕ → ℕ → ℕ → ℕ → ℕ →
 wording row c start flags kind slots loads count = wordDeclarationCheck row c slots loads count start flags kind
 
 words-refused :
-    {tokens : ℕ} {m : Rule Nodes ℕ} {q : Rule (Unit {0}) Tree} (E : ℕ → ℕ → ℕ → Check) (ws : List ℕ) (c k : ℕ)
-    {t : Checked} → checkOf t ≡ E (length ws) (length ws) k → {n : ℕ} {x : TokenId} → t ≡ Failed n x →
+    {tokens : ℕ} {m : Rule Nodes ℕ} {q : Rule (Unit {0}) Tree} (E : ℕ → ℕ → ℕ → Check) →
+    ((slots loads count : ℕ) → Listed (E slots loads count)) → (ws : List ℕ) (c k : ℕ) {t : Checked} →
+    checkOf t ≡ E (length ws) (length ws) k → {n : ℕ} {x : TokenId} → t ≡ Failed n x →
     {r : Parsed} → r ≡ refusal n (x .0) (x .0) c k →
     Unpacked (λ o. Promise tokens (E (length (o .kinds)) (length (o .loads)) (o .count)) m q c o) ws k r ws
-words-refused E ws c k f g h = check-refused c k (words-check E ws k f) g h
+words-refused E listed ws c k f g h = check-refused (listed _ _ k) c k (words-check E ws k f) g h
 
 -- the same with words
 module _ (tk tv ws : List ℕ) (c k : ℕ) {t : Checked} where
   module _ (f : checkOf t ≡ inputCheck (row tk tv) c (length ws) (length ws) k) where
     module _ {n : ℕ} {x : TokenId} (g : t ≡ Failed n x) {r : Parsed} (h : r ≡ refusal n (x .0) (x .0) c k) where
       pub expression-words-refused : ExpressionWords (row tk tv) c ws k r ws
-      expression-words-refused = words-refused (inputCheck (row tk tv) c) ws c k f g h
+      expression-words-refused = words-refused (inputCheck (row tk tv) c) (input-listed (row tk tv) c) ws c k f g h
 
       pub type-words-refused : TypeWords (row tk tv) c ws k r ws
-      type-words-refused = words-refused (inputCheck (row tk tv) c) ws c k f g h
+      type-words-refused = words-refused (inputCheck (row tk tv) c) (input-listed (row tk tv) c) ws c k f g h
 
     module _ (g : t ≡ Passed) {r : Parsed} {ws' : List ℕ} where
       pub expression-words-followed :
@@ -174,10 +177,14 @@ module _ (tk tv ws : List ℕ) (c k : ℕ) {t : Checked} where
       (f : checkOf t ≡ declarationCheck (row tk tv) c (length ws) (length ws) k start flags) where
     module _ {n : ℕ} {x : TokenId} (g : t ≡ Failed n x) {r : Parsed} (h : r ≡ refusal n (x .0) (x .0) c k) where
       pub constant-words-refused : ConstantWords (row tk tv) c start flags ws k r ws
-      constant-words-refused = words-refused (declaring (row tk tv) c start flags) ws c k f g h
+      constant-words-refused =
+          words-refused (declaring (row tk tv) c start flags) (declaration-listed (row tk tv) c start flags) ws c k f
+          g h
 
       pub struct-words-refused : StructWords (row tk tv) c start flags ws k r ws
-      struct-words-refused = words-refused (declaring (row tk tv) c start flags) ws c k f g h
+      struct-words-refused =
+          words-refused (declaring (row tk tv) c start flags) (declaration-listed (row tk tv) c start flags) ws c k f
+          g h
 
     module _ (g : t ≡ Passed) {r : Parsed} {ws' : List ℕ} where
       pub constant-words-followed :
@@ -199,7 +206,8 @@ module _ (tk tv ws : List ℕ) (c k : ℕ) {t : Checked} where
     pub word-words-refused :
         {n : ℕ} {x : TokenId} → t ≡ Failed n x → {r : Parsed} → r ≡ refusal n (x .0) (x .0) c k →
         WordWords (row tk tv) c start flags kind ws k r ws
-    word-words-refused g h = words-refused (wording (row tk tv) c start flags kind) ws c k f g h
+    word-words-refused g h =
+        words-refused (wording (row tk tv) c start flags kind) (word-listed (row tk tv) c start flags kind) ws c k f g h
 
     pub word-words-followed :
         t ≡ Passed → {r : Parsed} {ws' : List ℕ} →

@@ -1,4 +1,3 @@
-pub mod Checks
 pub mod Promises
 pub mod Splitting
 pub mod Entries

@@ -13,25 +13,26 @@ use Rattle.codes.specs.declared.Parsed.the-variants.{Node, Refused}
 use Rattle.codes.specs.declared.NodeId.{NodeId}
 use Rattle.codes.specs.declared.TokenId.{TokenId}
 use Rattle.codes.specs.Answer.{Gives, answer, parsed, nodes, row, refusal}
-use Rattle.codes.specs.Words.{Sized}
 use Rattle.codes.specs.Words as Core
 use Rattle.codes.proofs.Onto.{told-read, told-refused, plain-parsed}
-use Rattle.penne.specs.declared.Checked.{Checked}
-use Rattle.penne.specs.declared.Checked.the-variants.{Passed, Failed}
-use Rattle.penne.specs.Answer.{checkOf}
-use Rattle.penne.specs.Checks.{Check}
-use Rattle.penne.specs.Checks.{checked}
-use Rattle.penne.specs.Promise.{countOf, cursorOf, Frame, Accepted, Refuses, Promise}
+use Rattle.checks.specs.declared.Checked.{Checked}
+use Rattle.checks.specs.declared.Checked.the-variants.{Passed, Failed}
+use Rattle.checks.specs.Answer.{checkOf}
+use Rattle.checks.specs.Checks.{Check}
+use Rattle.checks.specs.Checks.{checked}
+use Rattle.penne.specs.Promise.{countOf, cursorOf, Accepted, Refuses, Promise}
 use Rattle.rules.specs.Codes.Refusal as Refusal
 use Rattle.rules.specs.Reading.{Rule, Result, ok, no}
 use Rattle.rules.specs.Trees.{Tree}
 use Rattle.rules.specs.Columns.{Nodes}
+use Rattle.rules.specs.Frame.{Frame}
+use Rattle.rules.specs.Places.{Placed}
 use Rattle.rules.specs.Words.{Words, wordAt, wordKind, wordLoad, Alongside, Packed, Agrees}
 use Rattle.rules.specs.Ways.{Whole, kindAt, loadAt}
 use Rattle.rules.specs.Demand as Demand
 use Rattle.rules.proofs.Demand.{words}
 use Rattle.rules.proofs.Words.{exact}
-use Rattle.penne.proofs.Checks.{Entered}
+use Rattle.checks.proofs.Laws.{Listed, Entered}
 
 -- the count of a reply is that of the columns
 pub counted : (res : Result ℕ) (p k : ℕ) → countOf (answer parsed res p k) ≡ k
@@ -42,14 +43,27 @@ pub refused-count :
     {r : Parsed} {n : ℕ} {p : TokenId} {k : ℕ} {x y : TokenId} → r ≡ Refused n p k x y → k ≡ countOf r
 refused-count e = rw e refl
 
+-- a result that is a refusal has its place
+abbrev InPlace : ℕ → Nodes → Result ℕ → ℕ → ℕ → Type 0
+InPlace c o (ok a) p k = Unit {0}
+InPlace c o (no n x y) p k = Placed c o n x y p k
+
+told-placed :
+    (c : ℕ) (o : Nodes) (q : Result ℕ) (p k : ℕ) → InPlace c o q p k → {r : Parsed} → r ≡ answer parsed q p k →
+    (n : ℕ) (x y p' : TokenId) (j : ℕ) → r ≡ Refused n p' j x y → Placed c o n (x .0) (y .0) (p' .0) j
+told-placed c o q p k h e n x y p' j d =
+    let (i, v, l) = told-refused plain-parsed q p k (sym d ∙ e) in
+    rw (← v, l) (subst (λ (q : Result ℕ). InPlace c o q p k) i h)
+
 -- an entry's promise where its check refused
 pub check-refused :
-    {tokens : ℕ} {m : Rule Nodes ℕ} {q : Rule (Unit {0}) Tree} {e : Check} (c k : ℕ) {ns ls : List ℕ} {t : Checked} →
-    checkOf t ≡ e → {n : ℕ} {x : TokenId} → t ≡ Failed n x → {r : Parsed} → r ≡ refusal n (x .0) (x .0) c k →
-    Promise tokens e m q c (nodes ns ls k) r ns ls
+    {tokens : ℕ} {m : Rule Nodes ℕ} {q : Rule (Unit {0}) Tree} {e : Check} → Listed e →
+    (c k : ℕ) {ns ls : List ℕ} {t : Checked} → checkOf t ≡ e → {n : ℕ} {x : TokenId} → t ≡ Failed n x →
+    {r : Parsed} → r ≡ refusal n (x .0) (x .0) c k → Promise tokens e m q c (nodes ns ls k) r ns ls
 unfolding checked
-check-refused {e = e} c k f {n} {x} g h =
+check-refused {e = e} listed c k {ns} {ls} f {n} {x} g h =
     let w : some (n, x .0) ≡ e = sym (ap checkOf g) ∙ f in
+    let z : Placed c (nodes ns ls k) n (x .0) (x .0) c k = rw (← w) at (listed .at c (nodes ns ls k)) in
     rw (← w, h) record {
       equal = record { reply = refl; kinds = refl; loads = refl };
       frame = record {
@@ -62,13 +76,14 @@ check-refused {e = e} c k f {n} {x} g h =
       };
       accepted = λ root cursor count d. let z : _≡_ {A = ℕ} 0 1 = cc in absurd (omega arith);
       refused = λ d n x y p j r v. let z : _≡_ {A = ℕ} 0 1 = cc in absurd (omega arith);
+      placed = told-placed c (nodes ns ls k) (no n (x .0) (x .0)) c k z refl;
       within = λ d. let z : _≡_ {A = ℕ} 0 1 = cc in absurd (omega arith);
     }
 
 -- and where it passed
 module _ {tk tv : List ℕ} {m : Rule Nodes ℕ} {q : Rule (Unit {0}) Tree} (D : Demand.Demand (row tk tv) m q)
     (c : ℕ) (o : Nodes) (y : Entered tk tv c o) where
-  sizes : Demand.Sized o
+  sizes : Demand.Paired o
   sizes = record { even = y .even; room = omega (arith, y .sized .used, y .even) }
 
   module _ {r : Parsed} {ks' ls' : List ℕ} (d : Gives m c o r ks' ls') where
@@ -79,16 +94,7 @@ module _ {tk tv : List ℕ} {m : Rule Nodes ℕ} {q : Rule (Unit {0}) Tree} (D :
         rw (d .kinds, d .loads, h) refl
 
     framed : Frame o (nodes ks' ls' (countOf r))
-    framed =
-        let w = D .kept o c sizes in
-        rw (← left-columns) record {
-          grew = w .grew;
-          fits = λ _. w .fits;
-          kinds-kept = w .kinds;
-          loads-kept = w .loads ∙ w .kinds ∙ sym (sizes .even);
-          below = w .before;
-          above = w .after;
-        }
+    framed = rw (← left-columns) (D .framed o c sizes)
 
     accepts :
         (root : NodeId) (cursor : TokenId) (count : ℕ) → r ≡ Node root cursor count →
@@ -123,6 +129,10 @@ module _ {tk tv : List ℕ} {m : Rule Nodes ℕ} {q : Rule (Unit {0}) Tree} (D :
         let a = D .refused o c n (x .0) (y .0) sizes i v in
         record { refused = a .0; at = a .1 ∙ k }
 
+    in-place : (res : Result ℕ) → m c o .result ≡ res → InPlace c o res (m c o .cursor) (m c o .state .count)
+    in-place (ok root) i = tt
+    in-place (no n x w) i = D .placed o c n x w sizes i
+
     pub rule-followed :
         {t : Checked} {e : Check} → checkOf t ≡ e → t ≡ Passed → Promise (length tk) e m q c o r ks' ls'
     unfolding checked
@@ -133,6 +143,7 @@ module _ {tk tv : List ℕ} {m : Rule Nodes ℕ} {q : Rule (Unit {0}) Tree} (D :
           frame = framed;
           accepted = accepts;
           refused = λ _. refuses;
+          placed = told-placed c o (m c o .result) _ _ (in-place (m c o .result) refl) (d .reply);
           within = λ _. stops (m c o .result) refl;
         }
 
@@ -151,11 +162,11 @@ module _ {tk tv : List ℕ} {m : Rule Nodes ℕ} {q : Rule (Unit {0}) Tree} (D :
     -- there is room for the nodes of the reply
     pub replied-fits : (o .count ≤ countOf r) × (countOf r ≤ length (o .kinds))
     replied-fits =
-        let k = D .kept o c sizes in
-        (omega (arith, same-count, k .grew), omega (arith, same-count, k .fits, k .kinds))
+        let k = D .framed o c sizes in
+        (omega (arith, same-count, k .grew), omega (arith, same-count, k .fits (sizes .room), k .kinds-kept))
 
     pub same-slots : length ws ≡ length (o .kinds)
-    same-slots = rw (g .words) (packed-same .along .size ∙ D .kept o c sizes .kinds)
+    same-slots = rw (g .words) (packed-same .along .size ∙ D .framed o c sizes .kinds-kept)
 
     -- the words from the given count up to the replied one, and all others
     word-node :
@@ -190,16 +201,16 @@ module _ {tk tv : List ℕ} {m : Rule Nodes ℕ} {q : Rule (Unit {0}) Tree} (D :
 
     kinds-kept :
         (i : ℕ) → (i < o .count) ⊎ (countOf r ≤ i) → kindAt (m c o .state) i ≡ kindAt o i
-    kinds-kept i h = let k = D .kept o c sizes in elim h [
-      | inl a ↦ k .before i a .0
-      | inr a ↦ k .after i (omega (arith, same-count)) .0
+    kinds-kept i h = let k = D .framed o c sizes in elim h [
+      | inl a ↦ k .below i a .0
+      | inr a ↦ k .above i (omega (arith, same-count)) .0
     ]
 
     loads-kept :
         (i : ℕ) → (i < o .count) ⊎ (countOf r ≤ i) → loadAt (m c o .state) i ≡ loadAt o i
-    loads-kept i h = let k = D .kept o c sizes in elim h [
-      | inl a ↦ k .before i a .1
-      | inr a ↦ k .after i (omega (arith, same-count)) .1
+    loads-kept i h = let k = D .framed o c sizes in elim h [
+      | inl a ↦ k .below i a .1
+      | inr a ↦ k .above i (omega (arith, same-count)) .1
     ]
 
     pub others : (i : ℕ) → (i < o .count) ⊎ (countOf r ≤ i) → getD ws i 0 ≡ wordAt w i
@@ -212,13 +223,13 @@ module _ {tk tv : List ℕ} {m : Rule Nodes ℕ} {q : Rule (Unit {0}) Tree} (D :
         ((i : ℕ) → (i < o .count) ⊎ (countOf r ≤ i) → (getD ks i 0 ≡ kindAt o i) × (getD ls i 0 ≡ loadAt o i)) →
         Gives m c o r ks ls
     columns-given ks ls a b within else =
-        let k = D .kept o c sizes in
+        let k = D .framed o c sizes in
         record {
           reply = same-reply;
           kinds =
-              same-column (λ s. s .kinds) wordKind ks (a ∙ sym (k .kinds)) (λ i x z. word-node i x z .0) kinds-kept
+              same-column (λ s. s .kinds) wordKind ks (a ∙ sym (k .kinds-kept)) (λ i x z. word-node i x z .0) kinds-kept
               (λ i x z. within i x z .0) (λ i x. else i x .0);
           loads =
-              same-column (λ s. s .loads) wordLoad ls (b ∙ sym (k .loads ∙ k .kinds)) (λ i x z. word-node i x z .1)
+              same-column (λ s. s .loads) wordLoad ls (b ∙ sym (k .loads-kept ∙ sizes .even)) (λ i x z. word-node i x z .1)
               loads-kept (λ i x z. within i x z .1) (λ i x. else i x .1);
         }

@@ -9,7 +9,7 @@ use Rattle.rules.specs.Columns.{Nodes}
 use Rattle.rules.specs.Words.{wordKind, wordLoad}
 use lib.ListN.{length}
 use Rattle.rules.specs.Trees.{Tree}
-use Rattle.penne.specs.Checks.{Check, inputCheck, declarationCheck, wordDeclarationCheck}
+use Rattle.checks.specs.Checks.{Check, inputCheck, declarationCheck, wordDeclarationCheck}
 use Rattle.penne.specs.Promise.{Promise, Expression, Type', Constant, Struct, Word}
 use Rattle.penne.specs.Words.{Transfers}
 

@@ -15,11 +15,13 @@ use Rattle.rules.specs.Codes.Limit as Limit
 use Rattle.rules.specs.Reading.{Rule, Row, ok, no}
 use Rattle.rules.specs.Trees.{Tree, trees}
 use Rattle.rules.specs.Columns.{Nodes, columns}
-use Rattle.rules.specs.Ways.{kindAt, loadAt, Whole}
+use Rattle.rules.specs.Frame.{Frame}
+use Rattle.rules.specs.Places.{Placed}
+use Rattle.rules.specs.Ways.{Whole}
 use Rattle.rules.specs.Types.{type}
 use Rattle.rules.specs.Expressions.{expression}
 use Rattle.rules.specs.Declarations.{constant, struct, word}
-use Rattle.penne.specs.Checks.{Check, checked, inputCheck, declarationCheck, wordDeclarationCheck}
+use Rattle.checks.specs.Checks.{Check, checked, inputCheck, declarationCheck, wordDeclarationCheck}
 
 -- the node count of a reply
 abbrev pub countOf : Parsed → ℕ
@@ -30,15 +32,6 @@ countOf (Refused number cursor count start end) = count
 abbrev pub cursorOf : Parsed → ℕ
 cursorOf (Node root cursor count) = cursor .0
 cursorOf (Refused number cursor count start end) = cursor .0
-
--- The frame: the columns s are o but for the nodes from the given count up to the replied one, which is that of s.
-pub record Frame (o s : Nodes) : Type 0 where
-  pub grew : o .count ≤ s .count
-  pub fits : o .count ≤ length (o .kinds) → s .count ≤ length (s .kinds)
-  pub kinds-kept : length (s .kinds) ≡ length (o .kinds)
-  pub loads-kept : length (s .loads) ≡ length (o .loads)
-  pub below : (m : ℕ) → m < o .count → (kindAt s m ≡ kindAt o m) × (loadAt s m ≡ loadAt o m)
-  pub above : (m : ℕ) → s .count ≤ m → (kindAt s m ≡ kindAt o m) × (loadAt s m ≡ loadAt o m)
 
 -- Demand 3 of an accepted parse in a row of so many tokens: the rule q with trees, from the given cursor c, reads the
 -- tree that stands along the ways from the root in the columns s at exit, and takes the same tokens.
@@ -62,6 +55,7 @@ pub record Promise (tokens : ℕ) (e : Check) (m : Rule Nodes ℕ) (q : Rule (Un
     (r : Parsed) (ks ls : List ℕ) : Type 0 where
   -- the reply and every slot equal the definition
   pub equal : Gives (checked e m) c o r ks ls
+  -- no node below the given count changed, and none from the replied count on
   pub frame : Frame o (nodes ks ls (countOf r))
   pub accepted :
       (root : NodeId) (cursor : TokenId) (count : ℕ) → r ≡ Node root cursor count →
@@ -70,6 +64,10 @@ pub record Promise (tokens : ℕ) (e : Check) (m : Rule Nodes ℕ) (q : Rule (Un
   pub refused :
       e ≡ none → (number : ℕ) (start end cursor : TokenId) (count : ℕ) → r ≡ Refused number cursor count start end →
       number ≢ Refusal.NoSlot → Refuses q c number (start .0) (end .0) (cursor .0)
+  -- a refusal has a number of document 01's list, and its start, end, cursor and count go together as that wants
+  pub placed :
+      (number : ℕ) (start end cursor : TokenId) (count : ℕ) → r ≡ Refused number cursor count start end →
+      Placed c o number (start .0) (end .0) (cursor .0) count
   -- after a parse the cursor is at most the token count
   pub within : e ≡ none → cursorOf r ≤ tokens
 

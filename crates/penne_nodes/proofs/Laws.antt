@@ -1,17 +1,18 @@
 -- What the tests of an input tell, and how the output follows from the parse.
 use Prim.Native.Nat.{ℕ, _+_, _-_, _*_, _≤_, _<_}
-use mathlib.Core.Bool.{Bool, true, false, not, true≢false}
+use mathlib.Core.Bool.{Bool, true, false}
 use mathlib.Core.List.{List}
 use mathlib.Core.Path.{_≡_, refl, sym, _∙_, subst}
 use native.Mathlib.Omega.{arith}
 use lib.ListN.{length, length-take, getD, drop, take}
 use lib.Dec.{ltb}
-use borrow.Author.Tests.{ltb-false, eqb-true, lt-ltb, le-ltb, eq-eqb, ne-eqb}
+use borrow.Author.Tests.{ltb-false, lt-ltb, le-ltb, eq-eqb, ne-eqb}
 use Rattle.codes.specs.declared.Parsed.{Parsed}
 use Rattle.codes.specs.declared.Parsed.the-variants.{Refused}
 use Rattle.codes.specs.declared.TokenId.{TokenId}
 use Rattle.codes.specs.Answer.{Gives, nodes, answer, parsed, row}
-use Rattle.penne.specs.Checks.{or, unequal, inputCheck, checked}
+use Rattle.checks.specs.Checks.{unequal, inputCheck, checked}
+use Rattle.checks.proofs.Laws.{neither, same}
 use Rattle.penne.specs.Promise.{Promise, Expression, Type', countOf}
 use Rattle.penne.proofs.Promises.{counted}
 use Rattle.rules.specs.Columns.{Nodes, columns}
@@ -22,12 +23,13 @@ use Rattle.rules.specs.Reading.{Rule, Row}
 use Rattle.rules.specs.Trees.{Tree, trees}
 use Rattle.penne_nodes.specs.declared.input.Input.{Input}
 use Rattle.penne_nodes.specs.declared.input.Input.the-variants.{Ended}
-use Rattle.penne_nodes.specs.Filled.{Places, Filled}
-use Rattle.penne_nodes.specs.Input.{Slots, Sizes, Tokens, sizeAt, bad, asking, asked, tokensOf, cursorOf}
-use Rattle.penne_nodes.specs.Text.{badFile, reply}
-use Rattle.penne_nodes.specs.Output.{parse, output}
-use Rattle.penne_nodes.specs.Puts.{Puts}
-use Rattle.penne_nodes.specs.Parses.{Parses}
+use Rattle.penne_nodes.specs.Filled.{InputBytes, Filled}
+use Rattle.penne_nodes.specs.Input.{ProgramSlots, Sizes, ProgramTokens, sizeAt, bad, asking, asked, tokensOf, cursorIn}
+use Rattle.penne_nodes.specs.Output.{parse, shown, output, columnsAfter, Answers}
+use Rattle.node_text.specs.Text.{badFile, reply, lines}
+use Rattle.node_text.specs.Puts.{Puts, Room}
+use Rattle.node_text.proofs.Texts.{then, room, reply-short}
+use Rattle.penne_nodes.specs.Parses.{Parses, Fits}
 
 pub size-of :
     (bytes : List ℕ) (at : ℕ) {a b c d : ℕ} → a ≡ getD bytes at 0 → b ≡ getD bytes (at + 1) 0 →
@@ -42,11 +44,11 @@ module _ (bytes : List ℕ) where
   no-sizes h = rw (lt-ltb _ _ h) refl
 
   module _ (h : Sizes ≤ length bytes) {n : ℕ} (e : n ≡ sizeAt bytes 0) where
-    pub too-many-tokens : Tokens < n → true ≡ bad bytes
+    pub too-many-tokens : ProgramTokens < n → true ≡ bad bytes
     unfolding bad
     too-many-tokens b = rw (le-ltb _ _ h, ← e, lt-ltb _ _ b) refl
 
-    module _ (b : n ≤ Tokens) where
+    module _ (b : n ≤ ProgramTokens) where
       pub other-length : (length bytes ≡ Sizes + n + n → ⊥) → true ≡ bad bytes
       unfolding bad
       other-length d = rw (le-ltb _ _ h, ← e, le-ltb _ _ b, ne-eqb _ _ d) refl
@@ -67,26 +69,18 @@ module _ (bytes : List ℕ) {b : Bool} (e : b ≡ bad bytes) where
   is-good f = sym f ∙ e
 
 -- what an input is that is not bad
-neither : (a b : Bool) → or a b ≡ false → (a ≡ false) × (b ≡ false)
-neither true b e = absurd (true≢false e)
-neither false b e = (refl, e)
-
-negation : (t : Bool) → not t ≡ false → t ≡ true
-negation true e = refl
-negation false e = absurd (true≢false e)
-
 pub record Good (bytes : List ℕ) : Type 0 where
   pub sizes : Sizes ≤ length bytes
-  pub tokens : tokensOf bytes ≤ Tokens
+  pub tokens : tokensOf bytes ≤ ProgramTokens
   pub all : length bytes ≡ Sizes + tokensOf bytes + tokensOf bytes
 
 pub good : {bytes : List ℕ} → bad bytes ≡ false → Good bytes
 unfolding bad
 good {bytes} e =
     let (a, f) = neither (ltb (length bytes) Sizes) _ e in
-    let (b, g) = neither (ltb Tokens (tokensOf bytes)) _ f in
+    let (b, g) = neither (ltb ProgramTokens (tokensOf bytes)) _ f in
     let (c, _) = neither (unequal (length bytes) (Sizes + tokensOf bytes + tokensOf bytes)) _ g in
-    record { sizes = ltb-false _ _ a; tokens = ltb-false _ _ b; all = eqb-true _ _ (negation _ c) }
+    record { sizes = ltb-false _ _ a; tokens = ltb-false _ _ b; all = same _ _ c }
 
 module _ (bytes : List ℕ) (e : false ≡ bad bytes) where
   pub size-there : {m : ℕ} → m ≤ Sizes → m ≤ length bytes
@@ -100,18 +94,18 @@ module _ (bytes : List ℕ) (e : false ≡ bad bytes) where
     types-there = let s = good (sym e) .all in omega arith
 
 -- the entry that is asked for
-module _ {ks ls : List ℕ} (u : length ks ≡ Slots) (v : length ls ≡ Slots) {r : Parsed} {ks' ls' : List ℕ} where
+module _ {ks ls : List ℕ} (u : length ks ≡ ProgramSlots) (v : length ls ≡ ProgramSlots) {r : Parsed} {ks' ls' : List ℕ} where
   sized :
       (R : Row) (c : ℕ) (m : Rule Nodes ℕ) (q : Rule (Unit {0}) Tree) →
       Promise (length (R .kinds)) (inputCheck R c (length ks) (length ls) 0) m q c (nodes ks ls 0) r ks' ls' →
-      Parses (checked (inputCheck R c Slots Slots 0) m) c ks ls r ks' ls'
+      Parses (checked (inputCheck R c ProgramSlots ProgramSlots 0) m) c ks ls r ks' ls'
   sized R c m q p =
       let G : ℕ → ℕ → Type 0 = λ a b. Gives (checked (inputCheck R c a b 0) m) c (nodes ks ls 0) r ks' ls' in
       let a = p .frame .fits (omega arith) in
       let b = p .frame .kinds-kept in
       let d = p .frame .loads-kept in
       record {
-        gives = subst (λ (a : ℕ). G a Slots) u (subst (λ (b : ℕ). G (length ks) b) v (p .equal));
+        gives = subst (λ (a : ℕ). G a ProgramSlots) u (subst (λ (b : ℕ). G (length ks) b) v (p .equal));
         fits = record { count = omega arith; kinds = b ∙ u; loads = d ∙ v };
       }
 
@@ -131,7 +125,7 @@ pub input-asked :
     {ks ls : List ℕ} {r : Parsed} {ks' ls' : List ℕ} →
     Parses (asking (row (take ((Sizes + n) - Sizes) (drop Sizes bytes))
     (take ((Sizes + n + n) - (Sizes + n)) (drop (Sizes + n) bytes))) c e) c ks ls r ks' ls' →
-    Parses (asked bytes) (cursorOf bytes) ks ls r ks' ls'
+    Parses (asked bytes) (cursorIn bytes) ks ls r ks' ls'
 input-asked bytes {n} {c} {e} f g h {ks} {ls} {r} {ks'} {ls'} p =
     let a : (Sizes + n) - Sizes ≡ n = omega arith in
     let b : (Sizes + n + n) - (Sizes + n) ≡ n = omega arith in
@@ -140,25 +134,54 @@ input-asked bytes {n} {c} {e} f g h {ks} {ls} {r} {ks'} {ls'} p =
     let q : P n n = subst (λ (i : ℕ). P i n) a (subst (λ (j : ℕ). P ((Sizes + n) - Sizes) j) b p) in
     rw (← f, ← g, ← h) q
 
--- the output, by whether the file is bad
-module _ (bytes : List ℕ) (s : Nodes) {xs ys : List ℕ} {end : ℕ} where
-  pub bad-shown : true ≡ bad bytes → Puts xs 0 badFile ys end → take end ys ≡ output bytes s
-  unfolding output
-  bad-shown e p = p .start ∙ rw (← e) refl
+-- the reply and the nodes
+pub parse-put :
+    (ks ls : List ℕ) (r : Parsed) {n p end : ℕ} {xs ys zs : List ℕ} → n ≡ countOf r → Puts xs 0 (reply r) ys p →
+    Puts ys p (lines (nodes ks ls n) n) zs end → Puts xs 0 (parse r (nodes ks ls (countOf r))) zs end
+parse-put ks ls r e f g = rw (← e) (then {t = reply r} f g)
 
-  pub parse-shown :
-      false ≡ bad bytes → (r : Parsed) (ks ls : List ℕ) → Gives (asked bytes) (cursorOf bytes) s r ks ls →
-      Puts xs 0 (parse r (nodes ks ls (countOf r))) ys end → take end ys ≡ output bytes s
-  unfolding output
-  parse-shown e r ks ls d p =
-      let o = asked bytes (cursorOf bytes) s in
+module _ (r : Parsed) {ks ls : List ℕ} (f : Fits r ks ls) {n : ℕ} (e : n ≡ countOf r) where
+  pub kinds-fit : n ≤ length ks
+  kinds-fit =
+      let a = f .count in
+      let b = f .kinds in
+      omega arith
+
+  pub loads-fit : n ≤ length ls
+  loads-fit =
+      let a = f .count in
+      let b = f .loads in
+      omega arith
+
+  pub nodes-room :
+      {xs ys : List ℕ} {p : ℕ} → Puts xs 0 (reply r) ys p → Room xs 0 (64 + 33 * ProgramSlots) → Room ys p (33 * n)
+  nodes-room p h = let a = f .count in room (reply-short r) p h (omega arith)
+
+-- the output and the columns, by whether the file is bad
+module _ (bytes : List ℕ) {xs ys : List ℕ} {end : ℕ} where
+  pub bad-answered :
+      (s : Nodes) → true ≡ bad bytes → Puts xs 0 badFile ys end → Answers bytes s xs ys end (s .kinds) (s .loads)
+  unfolding output columnsAfter
+  bad-answered s e p = record { text = rw (← e) p; kinds = rw (← e) refl; loads = rw (← e) refl }
+
+  pub parse-answered :
+      (s : Nodes) → false ≡ bad bytes → (r : Parsed) {ks ls : List ℕ} → Gives (asked bytes) (cursorIn bytes) s r ks ls →
+      Puts xs 0 (parse r (nodes ks ls (countOf r))) ys end → Answers bytes s xs ys end ks ls
+  unfolding output columnsAfter
+  parse-answered s e r {ks} {ls} d p =
+      let o = asked bytes (cursorIn bytes) s in
       let c : countOf (answer parsed (o .result) (o .cursor) (o .state .count)) ≡ o .state .count =
       counted (o .result) _ _ in
-      p .start ∙ rw (← e, d .reply, d .kinds, d .loads, c) refl
+      let t : parse r (nodes ks ls (countOf r)) ≡ shown o = rw (d .reply, d .kinds, d .loads, c) refl in
+      record {
+        text = rw (← e) (subst (λ (u : List ℕ). Puts xs 0 u ys end) t p);
+        kinds = rw (← e) (d .kinds);
+        loads = rw (← e) (d .loads);
+      }
 
 -- what was read is a part of the buffer
 pub start-counts :
-    (bytes : List ℕ) {i : Input} {n : ℕ} → i ≡ Ended n → Filled i → length bytes ≡ Places → n ≡ length (take n bytes)
+    (bytes : List ℕ) {i : Input} {n : ℕ} → i ≡ Ended n → Filled i → length bytes ≡ InputBytes → n ≡ length (take n bytes)
 start-counts bytes e f h =
-    let g : _ ≤ Places = subst Filled e f in
+    let g : _ ≤ InputBytes = subst Filled e f in
     simp length-take (omega arith)

@@ -2,5 +2,3 @@ pub mod Filled
 pub mod Input
 pub mod Output
 pub mod Parses
-pub mod Puts
-pub mod Text

@@ -8,13 +8,13 @@ use Rattle.codes.specs.Answer.{Gives, nodes}
 use Rattle.penne.specs.Promise.{countOf}
 use Rattle.rules.specs.Columns.{Nodes}
 use Rattle.rules.specs.Reading.{Rule}
-use Rattle.penne_nodes.specs.Input.{Slots}
+use Rattle.penne_nodes.specs.Input.{ProgramSlots}
 
 -- The node count of the reply is within the slots, of which both columns have all.
 pub record Fits (r : Parsed) (ks ls : List ℕ) : Type 0 where
-  pub count : countOf r ≤ Slots
-  pub kinds : length ks ≡ Slots
-  pub loads : length ls ≡ Slots
+  pub count : countOf r ≤ ProgramSlots
+  pub kinds : length ks ≡ ProgramSlots
+  pub loads : length ls ≡ ProgramSlots
 
 -- The reply r and the columns ks' and ls' are what the rule m gives from the cursor c, the columns ks and ls, and no
 -- node yet.

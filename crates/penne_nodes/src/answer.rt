@@ -2,18 +2,20 @@
 ghost use Prim.Native.Nat.{_≤_, _+_, _*_};
 ghost use mathlib.Core.Bool.{false};
 ghost use mathlib.Core.Path.{_≡_};
-ghost use lib.ListN.{length, take};
+ghost use lib.ListN.{length};
 ghost use Rattle.codes.specs.Answer.{row, nodes};
 ghost use Rattle.penne.specs.Promise.{countOf};
-ghost use Rattle.penne_nodes.specs.Input.{Slots, sizeAt, bad, asking, asked, cursorOf};
-ghost use Rattle.penne_nodes.specs.Text.{reply as reply·text, lines};
-ghost use Rattle.penne_nodes.specs.Output.{output};
+ghost use Rattle.penne_nodes.specs.Input.{ProgramSlots, sizeAt, bad, asking, asked, cursorIn};
+ghost use Rattle.penne_nodes.specs.Output.{Answers};
 ghost use Rattle.penne_nodes.specs.Output.{parse as parse·text};
 ghost use Rattle.penne_nodes.specs.Parses.{Parses, Fits};
-ghost use Rattle.penne_nodes.specs.Puts.{Puts, Room};
-use crate::text;
+ghost use Rattle.node_text.specs.Puts.{Puts, Room};
 use codes::Parsed;
 use codes::TokenId;
+use node_text::put_bad_file;
+use node_text::put_nodes;
+use node_text::put_reply;
+use numbers::wide;
 
 // The slots of the node columns.
 pub const SLOTS: usize = 8197;
@@ -33,12 +35,6 @@ const TOKENS: u32 = 4096;
 
 // The entry that reads a type; the one below it reads an expression.
 const TYPE: u32 = 1;
-
-fn wide(byte: u8) -> u32
-    ensures { λ r. ⌜ (r ≡ byte) × (r ≤ 255) ⌝ }
-{
-    byte as u32
-}
 
 // The little-endian number in four bytes.
 fn size(bytes: &[u8], at: usize) -> u32
@@ -77,7 +73,7 @@ fn parse_row(
     node_kinds: &mut [u8],
     node_loads: &mut [u32],
 ) -> Parsed
-    requires { ⌜ (length (now «node_kinds») ≡ Slots) × (length (now «node_loads») ≡ Slots) ⌝ }
+    requires { ⌜ (length (now «node_kinds») ≡ ProgramSlots) × (length (now «node_loads») ≡ ProgramSlots) ⌝ }
     ensures { λ r. ⌜ Parses (asking (row (now (kinds .entry)) (now (types .entry))) cursor entry) cursor (now («node_kinds» .entry)) (now («node_loads» .entry)) r (now («node_kinds» .exit)) (now («node_loads» .exit)) ⌝ }
 {
     let place = TokenId(cursor);
@@ -91,8 +87,8 @@ fn parse_row(
 // The reply to the row of an input that is not bad.
 fn parse(bytes: &[u8], node_kinds: &mut [u8], node_loads: &mut [u32]) -> Parsed
     requires { ⌜ false ≡ bad (now bytes) ⌝ }
-    requires { ⌜ (length (now «node_kinds») ≡ Slots) × (length (now «node_loads») ≡ Slots) ⌝ }
-    ensures { λ r. ⌜ Parses (asked (now (bytes .entry))) (cursorOf (now (bytes .entry))) (now («node_kinds» .entry)) (now («node_loads» .entry)) r (now («node_kinds» .exit)) (now («node_loads» .exit)) ⌝ }
+    requires { ⌜ (length (now «node_kinds») ≡ ProgramSlots) × (length (now «node_loads») ≡ ProgramSlots) ⌝ }
+    ensures { λ r. ⌜ Parses (asked (now (bytes .entry))) (cursorIn (now (bytes .entry))) (now («node_kinds» .entry)) (now («node_loads» .entry)) r (now («node_kinds» .exit)) (now («node_loads» .exit)) ⌝ }
 {
     let tokens = size(bytes, 0) as usize;
     let middle = SIZES + tokens;
@@ -107,53 +103,6 @@ fn parse(bytes: &[u8], node_kinds: &mut [u8], node_loads: &mut [u32]) -> Parsed
         node_kinds,
         node_loads,
     )
-}
-
-// The first line: the reply's numbers.
-fn put_reply(out: &mut [u8], reply: Parsed) -> usize
-    requires { ⌜ Room (now out) 0 64 ⌝ }
-    ensures { λ r. ⌜ Puts (now (out .entry)) 0 (reply·text reply) (now (out .exit)) r ⌝ }
-{
-    match reply {
-        Parsed::Node {
-            root,
-            cursor,
-            count,
-        } => {
-            let after_root = text::put_word(out, b'o', b'k', root.0);
-            let after_count = text::put_two(out, after_root, cursor.0, count);
-            text::put(out, after_count, b'\n')
-        }
-        Parsed::Refused {
-            number,
-            start,
-            end,
-            cursor,
-            count,
-        } => {
-            let after_number = text::put_word(out, b'n', b'o', number);
-            let after_end = text::put_two(out, after_number, start.0, end.0);
-            let after_count = text::put_two(out, after_end, cursor.0, count);
-            text::put(out, after_count, b'\n')
-        }
-    }
-}
-
-// A line for each node below the count.
-fn put_nodes(out: &mut [u8], at: usize, node_kinds: &[u8], node_loads: &[u32], count: u32) -> usize
-    requires { ⌜ (count ≤ length (now «node_kinds»)) × (count ≤ length (now «node_loads»)) ⌝ }
-    requires { ⌜ Room (now out) at (33 * count) ⌝ }
-    ensures { λ r. ⌜ Puts (now (out .entry)) at (lines (nodes (now («node_kinds» .entry)) (now («node_loads» .entry)) count) count) (now (out .exit)) r ⌝ }
-{
-    let mut place = at;
-    let mut number: u32 = 0;
-    while number < count {
-        let kind = node_kinds[number as usize];
-        let load = node_loads[number as usize];
-        place = text::put_node(out, place, number, kind, load);
-        number += 1;
-    }
-    place
 }
 
 // The node count of a reply.
@@ -179,7 +128,7 @@ fn count_of(reply: Parsed) -> u32
 // The reply, and the nodes.
 fn put_parse(out: &mut [u8], reply: Parsed, node_kinds: &[u8], node_loads: &[u32]) -> usize
     requires { ⌜ Fits reply (now «node_kinds») (now «node_loads») ⌝ }
-    requires { ⌜ Room (now out) 0 (64 + 33 * Slots) ⌝ }
+    requires { ⌜ Room (now out) 0 (64 + 33 * ProgramSlots) ⌝ }
     ensures { λ r. ⌜ Puts (now (out .entry)) 0 (parse·text reply (nodes (now («node_kinds» .entry)) (now («node_loads» .entry)) (countOf reply))) (now (out .exit)) r ⌝ }
 {
     let count = count_of(reply);
@@ -187,15 +136,16 @@ fn put_parse(out: &mut [u8], reply: Parsed, node_kinds: &[u8], node_loads: &[u32
     put_nodes(out, at, node_kinds, node_loads, count)
 }
 
-// What is written for the input, at the start of a buffer; the result is its end.
+// What is written for the input, at the start of a buffer; the result is its end. The rest of the buffer is kept, and the
+// node columns are those of the parse.
 pub fn answer(bytes: &[u8], node_kinds: &mut [u8], node_loads: &mut [u32], out: &mut [u8]) -> usize
-    requires { ⌜ (length (now «node_kinds») ≡ Slots) × (length (now «node_loads») ≡ Slots) ⌝ }
-    requires { ⌜ Room (now out) 0 (64 + 33 * Slots) ⌝ }
-    ensures { λ r. ⌜ take r (now (out .exit)) ≡ output (now (bytes .entry)) (nodes (now («node_kinds» .entry)) (now («node_loads» .entry)) 0) ⌝ }
+    requires { ⌜ (length (now «node_kinds») ≡ ProgramSlots) × (length (now «node_loads») ≡ ProgramSlots) ⌝ }
+    requires { ⌜ Room (now out) 0 (64 + 33 * ProgramSlots) ⌝ }
+    ensures { λ r. ⌜ Answers (now (bytes .entry)) (nodes (now («node_kinds» .entry)) (now («node_loads» .entry)) 0) (now (out .entry)) (now (out .exit)) r (now («node_kinds» .exit)) (now («node_loads» .exit)) ⌝ }
     ensures { λ r. ⌜ r ≤ length (now (out .exit)) ⌝ }
 {
     if is_bad(bytes) {
-        return text::put_bad_file(out);
+        return put_bad_file(out);
     }
     let reply = parse(bytes, node_kinds, node_loads);
     put_parse(out, reply, node_kinds, node_loads)

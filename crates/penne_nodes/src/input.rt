@@ -2,8 +2,9 @@
 ghost use Prim.Native.Nat.{_≤_, _<_};
 ghost use mathlib.Core.Path.{_≡_};
 ghost use lib.ListN.{length};
-ghost use Rattle.penne_nodes.specs.Filled.{Places, Filled};
+ghost use Rattle.penne_nodes.specs.Filled.{InputBytes, Filled};
 use libc::STDIN_FILENO;
+use numbers::least;
 
 // A byte more than the longest good input has, which is 12 of sizes, 4,096 kinds and 4,096 value types. An input that
 // fills these is a bad file, whatever would follow.
@@ -23,17 +24,11 @@ fn read_more(buffer: &mut [u8], from: usize) -> isize
     libc::read(STDIN_FILENO, &mut buffer[from..])
 }
 
-fn least(a: usize, b: usize) -> usize
-    ensures { λ r. ⌜ (r ≤ a) × (r ≤ b) ⌝ }
-{
-    if a < b { a } else { b }
-}
-
 // Reads until the input ends, the buffer is full or a read fails.
 pub fn read_input(buffer: &mut [u8]) -> Input
-    requires { ⌜ length (now buffer) ≡ Places ⌝ }
+    requires { ⌜ length (now buffer) ≡ InputBytes ⌝ }
     ensures { λ r. ⌜ Filled r ⌝ }
-    ensures { λ r. ⌜ length (now (buffer .exit)) ≡ Places ⌝ }
+    ensures { λ r. ⌜ length (now (buffer .exit)) ≡ InputBytes ⌝ }
 {
     let mut end: usize = 0;
     while end < buffer.len() {

@@ -6,11 +6,10 @@
 ghost use Prim.Native.Nat.{_≤_};
 ghost use mathlib.Core.Path.{_≡_};
 ghost use lib.ListN.{length};
-ghost use Rattle.penne_nodes.specs.Filled.{Places, Filled};
+ghost use Rattle.penne_nodes.specs.Filled.{InputBytes, Filled};
 
 mod answer;
 mod input;
-mod text;
 
 use answer::OUTPUT;
 use answer::SLOTS;
@@ -35,7 +34,7 @@ fn write_answer(
     node_loads: &mut [u32; SLOTS],
     out: &mut [u8; OUTPUT],
 )
-    requires { ⌜ Filled input × (length (now bytes) ≡ Places) ⌝ }
+    requires { ⌜ Filled input × (length (now bytes) ≡ InputBytes) ⌝ }
 {
     match input {
         Input::Failed => os::fail(b"penne_nodes: read"),

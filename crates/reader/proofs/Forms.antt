@@ -18,7 +18,7 @@ use denote.Triple.Statement.{Contract}
 use denote.Triple.Walked.{needs}
 use Rattle.walks.proofs.Extra.{Extra, Values, slots, kepts, out}
 use Rattle.walks.proofs.Plain.{Plain, Pair, struct}
-use Rattle.rules.specs.Codes.Limit as Most
+use Rattle.rules.specs.Codes.Limit as Limits
 use Rattle.codes.specs.declared.TokenId.{TokenId}
 use Rattle.codes.proofs.TokenId as I
 use Rattle.codes.proofs.TokenId.Laws as I′
@@ -44,7 +44,7 @@ Asked (upto n) c = c .0 ≤ n
 
 -- one past the last token there can be
 abbrev pub bounded : Asking
-bounded = upto (Most.Tokens + 1)
+bounded = upto (Limits.Tokens + 1)
 
 module _ {M : Type 1} (𝓤 : URA M) where
   abbrev asks : Asking → TokenId → SProp 𝓤
@@ -105,14 +105,14 @@ module _ (X : Extra) (Y : Way X) where
     abbrev pub passed-clauses : Clauses 𝓤 passed
     passed-clauses κs a = record {
       ghost = Unit {0};
-      requires = λ _. fact 𝓤 (a .1 .0 .0 ≤ Most.Tokens + 1);
+      requires = λ _. fact 𝓤 (a .1 .0 .0 ≤ Limits.Tokens + 1);
       ensures = λ _ s e. fact 𝓤 (Y .Says (now (a .0)) (a .1 .0) (out 1 κs X (a .1 .1)) s);
     }
 
     abbrev pub lent-clauses : Clauses 𝓤 lent
     lent-clauses κs a = record {
       ghost = Unit {0};
-      requires = λ _. fact 𝓤 (now (a .0) .cursor .0 ≤ Most.Tokens + 1);
+      requires = λ _. fact 𝓤 (now (a .0) .cursor .0 ≤ Limits.Tokens + 1);
       ensures = λ _ r e. fact 𝓤 (Y .Gives (now (a .0)) (out 2 κs X (a .1)) r (now (e .0)));
     }
 

@@ -7,7 +7,7 @@ use native.Mathlib.Omega.{arith}
 use lib.Dec.{eqb}
 use Rattle.rules.specs.Codes.{pick}
 use Rattle.rules.specs.Codes.BaseToken as BaseToken
-use Rattle.rules.specs.Codes.Limit as Most
+use Rattle.rules.specs.Codes.Limit as Limits
 use Rattle.rules.specs.Reading.{consume, optional}
 use Rattle.codes.specs.Answer.{token}
 use Rattle.codes.specs.Words.{Quiet}
@@ -27,7 +27,7 @@ unfolding consume
 expects k e = record { answer = e; cursor = refl }
 
 -- the number of a token is at most one past the last
-pub more : {c : ℕ} → c ≤ Most.Tokens → c ≤ Most.Tokens + 1
+pub more : {c : ℕ} → c ≤ Limits.Tokens → c ≤ Limits.Tokens + 1
 more h = omega arith
 
 -- a token that may stand there takes the cursor at most one further
@@ -36,13 +36,13 @@ at-most true c = omega arith
 at-most false c = omega arith
 
 pub optional-within :
-    {ks : List ℕ} {k c : ℕ} {o : Optional} → Optionally ks k c o → c ≤ Most.Tokens → o .cursor .0 ≤ Most.Tokens + 1
+    {ks : List ℕ} {k c : ℕ} {o : Optional} → Optionally ks k c o → c ≤ Limits.Tokens → o .cursor .0 ≤ Limits.Tokens + 1
 unfolding optional
 optional-within {ks} {k} {c} g h =
     let m = at-most (eqb (kindIn ks c) k) c in omega (arith, rw (← g .cursor) at m, h)
 
 pub tried-within :
-    {t t′ : Tokens} {k : ℕ} {b : Bool} → Tries t k b t′ → place t ≤ Most.Tokens → place t′ ≤ Most.Tokens + 1
+    {t t′ : Tokens} {k : ℕ} {b : Bool} → Tries t k b t′ → place t ≤ Limits.Tokens → place t′ ≤ Limits.Tokens + 1
 tried-within g h = optional-within (g .tried) h
 
 -- an optional comma, and then the token that closes a list: by the core's answers, and by the reader's

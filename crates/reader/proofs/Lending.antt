@@ -42,7 +42,7 @@ use Rattle.walks.proofs.Lent.{ref, Ref, Short, Long, LentWithin, lends-within, 
 use Rattle.walks.proofs.Operands.{naming, itself, local, within, gone}
 use Rattle.walks.proofs.Plain.{mirOf, valOf, sure}
 use Rattle.walks.proofs.Whole.{Cell}
-use Rattle.rules.specs.Codes.Limit as Most
+use Rattle.rules.specs.Codes.Limit as Limits
 use Rattle.codes.proofs.TokenId.Laws as I′
 use Rattle.reader.specs.declared.Tokens.{Tokens}
 use Rattle.reader.proofs.Tokens as T
@@ -95,7 +95,7 @@ module _ (μ : Mutability) (X : Extra) (Y : Way X) {M : Type 1} {𝓤 : URA M} {
 -- by `&mut`, for a lifetime ν of the call
 module _ (X : Extra) (Y : Way X) {M : Type 1} {𝓤 : URA M} {H : Heap 𝓤} {A : Atoms 𝓤} (W : Given 𝓤 H A) (C : Calls 𝓤 H)
     (Λ : Loops 𝓤 H) (#f : Name) (fm : FmC 𝓤 H (W .laws) C) (known : Triple 𝓤 (C #f) (Lent X Y 𝓤 H A)) (κ : Lft)
-    (q : Share) (l : ℕ) (h : Tokens) (below : h .cursor .0 ≤ Most.Tokens + 1) (x : Values X) (x-is : Knowns X x) where
+    (q : Share) (l : ℕ) (h : Tokens) (below : h .cursor .0 ≤ Limits.Tokens + 1) (x : Values X) (x-is : Knowns X x) where
   abbrev lfts : ℕ → Lfts 2
   lfts ν = (ν ∷ κ, (κ, tt))
 

@@ -40,7 +40,7 @@ use Rattle.walks.proofs.Operands.{naming, itself, within, gone}
 use Rattle.walks.proofs.Plain.{mirOf}
 use Rattle.walks.proofs.Whole.{opens-whole}
 use Rattle.walks.proofs.Told.{by-walk}
-use Rattle.rules.specs.Codes.Limit as Most
+use Rattle.rules.specs.Codes.Limit as Limits
 use Rattle.codes.proofs.TokenId.Laws as I′
 use Rattle.reader.specs.declared.Tokens.{Tokens}
 use Rattle.reader.specs.Answer.{moved}
@@ -88,7 +88,7 @@ module _ (X : Extra) (Y : Way X) (#core : Name) where
   stayed = (stay-ref (0 ∷ []) tt behind, E.stays 2 X)
 
   module _ {M : Type 1} (𝓤 : URA M) (H : Heap 𝓤) (A : Atoms 𝓤) (W : Given 𝓤 H A) (κ κ′ : Lft) (q q′ : Share) (b o : ℕ)
-      (γ : GName) (h : Tokens) (below : h .cursor .0 ≤ Most.Tokens + 1) where
+      (γ : GName) (h : Tokens) (below : h .cursor .0 ≤ Limits.Tokens + 1) where
     abbrev κs : Lfts 2
     κs = (κ, (κ′, tt))
 

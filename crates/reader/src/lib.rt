@@ -3,7 +3,7 @@
 // no reader uses the functions at the end, whose parameters are the row and the cursor.
 ghost use mathlib.Core.Path.{_≡_};
 ghost use Prim.Native.Nat.{_+_, _≤_};
-ghost use Rattle.rules.specs.Codes.Limit as Most;
+ghost use Rattle.rules.specs.Codes.Limit as Limits;
 ghost use Rattle.codes.specs.Words.{Quiet};
 ghost use Rattle.tokens.specs.Answer.{kindIn, consumed, Taking};
 ghost use Rattle.reader.specs.Answer.{kindsOf, place, ending, Looks, Takes, Tries, Expects, Consumes};
@@ -28,7 +28,7 @@ pub struct Expecting {
 // The token at the cursor is taken, and refused where it is not of the kind expected, with the cursor by value. The
 // answer has the node count.
 fn expect(kinds: &[u8], cursor: TokenId, count: u32, expected: u8) -> Expecting
-    requires { ⌜ cursor .0 ≤ Most.Tokens + 1 ⌝ }
+    requires { ⌜ cursor .0 ≤ Limits.Tokens + 1 ⌝ }
     ensures { λ r. ⌜ Expects (now (kinds .entry)) expected count (cursor .0) r ⌝ }
 {
     let answer = tokens::consume(kinds, cursor, count, expected);
@@ -58,7 +58,7 @@ pub fn peek<'s, 'a>(tokens: &'s Tokens<'a>) -> u8
 
 // The token at the cursor is taken.
 pub fn take<'s, 'a>(tokens: &'s mut Tokens<'a>) -> u8
-    requires { ⌜ place (now tokens) ≤ Most.Tokens + 1 ⌝ }
+    requires { ⌜ place (now tokens) ≤ Limits.Tokens + 1 ⌝ }
     ensures { λ r. ⌜ Takes (now (tokens .entry)) r (now (tokens .exit)) ⌝ }
 {
     let taken = tokens::take(tokens.kinds, tokens.cursor);
@@ -68,7 +68,7 @@ pub fn take<'s, 'a>(tokens: &'s mut Tokens<'a>) -> u8
 
 // The token at the cursor is taken, and refused where it is not of the kind expected. The answer has the node count.
 pub fn consume<'s, 'a>(tokens: &'s mut Tokens<'a>, count: u32, expected: u8) -> Consumed
-    requires { ⌜ place (now tokens) ≤ Most.Tokens + 1 ⌝ }
+    requires { ⌜ place (now tokens) ≤ Limits.Tokens + 1 ⌝ }
     ensures { λ r. ⌜ Consumes (now (tokens .entry)) expected count r (now (tokens .exit)) ⌝ }
 {
     let expecting = expect(tokens.kinds, tokens.cursor, count, expected);
@@ -78,7 +78,7 @@ pub fn consume<'s, 'a>(tokens: &'s mut Tokens<'a>, count: u32, expected: u8) -> 
 
 // The token at the cursor is taken where it is of the kind expected.
 pub fn consume_optional<'s, 'a>(tokens: &'s mut Tokens<'a>, expected: u8) -> bool
-    requires { ⌜ place (now tokens) ≤ Most.Tokens + 1 ⌝ }
+    requires { ⌜ place (now tokens) ≤ Limits.Tokens + 1 ⌝ }
     ensures { λ r. ⌜ Tries (now (tokens .entry)) expected r (now (tokens .exit)) ⌝ }
 {
     let optional = tokens::consume_optional(tokens.kinds, tokens.cursor, expected);
@@ -100,7 +100,7 @@ pub fn peek_at<'a>(kinds: &'a [u8], types: &'a [u8], cursor: TokenId) -> Taken
 
 // The token at the cursor is taken, likewise.
 pub fn take_at<'a>(kinds: &'a [u8], types: &'a [u8], cursor: TokenId) -> Taken
-    requires { ⌜ cursor .0 ≤ Most.Tokens + 1 ⌝ }
+    requires { ⌜ cursor .0 ≤ Limits.Tokens + 1 ⌝ }
     ensures { λ r. ⌜ Taking (now (kinds .entry)) (cursor .0) r ⌝ }
 {
     let mut reader = new(kinds, types, cursor);
@@ -119,7 +119,7 @@ pub fn consume_end<'a>(
     count: u32,
     closing: u8,
 ) -> Consumed
-    requires { ⌜ cursor .0 ≤ Most.Tokens ⌝ }
+    requires { ⌜ cursor .0 ≤ Limits.Tokens ⌝ }
     ensures { λ r. ⌜ Quiet consumed (ending closing) (now (kinds .entry)) (cursor .0) count r ⌝ }
 {
     let mut reader = new(kinds, types, cursor);

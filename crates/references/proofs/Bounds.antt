@@ -13,7 +13,7 @@ use Rattle.codes.specs.Answer.{parsed, row}
 use Rattle.codes.specs.Words.{Gives, Untyped, Quiet, nodes}
 use Rattle.codes.proofs.Onto.{Onto, plain-parsed, moved, came-read, split}
 use Rattle.codes.proofs.Loops.{heldIn, same-held}
-use Rattle.nodes.specs.Answer.{Slots, active, past}
+use Rattle.nodes.specs.Answer.{WithinSlots, active, past}
 use Rattle.nodes.proofs.Bounds.{slots-after, item-past}
 use Rattle.references.specs.declared.Ampersands.{Ampersands}
 use Rattle.references.specs.declared.Ampersands.the-variants.{Depth, Refused as NoDepth}
@@ -38,8 +38,8 @@ stop row c = record { within = λ i h. let b = below row .within i h in omega ar
 -- after a closing token and its node
 module _ {tk ns : List ℕ} (key kind inside : ℕ) {c k : ℕ} {r : Parsed} {ns' : List ℕ}
     (g : Untyped parsed (closing key kind inside) tk c (nodes ns k) r ns') {n : NodeId} {p : TokenId} {j : ℕ}
-    (q : r ≡ Node n p j) (h : Nonzero (refusalOf key)) (z : Slots ns k) where
-  pub after-closed : Slots ns' j × (k ≤ j) × (p .0 ≡ c + 1)
+    (q : r ≡ Node n p j) (h : Nonzero (refusalOf key)) (z : WithinSlots ns k) where
+  pub after-closed : WithinSlots ns' j × (k ≤ j) × (p .0 ≡ c + 1)
   unfolding closing closed
   after-closed =
       slots-after plain-parsed
@@ -95,7 +95,7 @@ name-there name = closes none then λ l p q. eased (λ _ _ e. e ∙ q) (deref-th
 pub after-name :
     {ns : List ℕ} (name : ℕ) {c k : ℕ} {r : Parsed} {ns' : List ℕ} →
     Gives (nameAlone words name) c (nodes ns k) r ns' → {n : NodeId} {p : TokenId} {j : ℕ} → r ≡ Node n p j →
-    Slots ns k → Slots ns' j × (k ≤ j) × (p .0 ≡ c)
+    WithinSlots ns k → WithinSlots ns' j × (k ≤ j) × (p .0 ≡ c)
 after-name name {c = c} g q z = slots-after plain-parsed (name-there {n = c} name) (omega arith) g q z
 
 -- the list of a step is as that of its item

@@ -12,7 +12,7 @@ use Rattle.codes.specs.declared.Parsed.the-variants.{Node, Refused}
 use Rattle.codes.specs.declared.NodeId.{NodeId}
 use Rattle.codes.specs.declared.TokenId.{TokenId}
 use Rattle.codes.specs.Answer.{parsed, token, row, refusal}
-use Rattle.codes.specs.Words.{As, Gives, Untyped, Quiet, nodes}
+use Rattle.codes.specs.Words.{As, Gives, Untyped, Quiet, nodes, Unread}
 use Rattle.codes.proofs.Onto.{Onto, _then_, stays, reads, regroup, at-here, answers, shows, picked}
 use Rattle.codes.proofs.Onto.{Refusing, told, held, hands-on, came-read, plain-parsed, Holding}
 use Rattle.codes.proofs.Loops.{Going, sets-out, goes-round, round, round-again, round-last}
@@ -32,7 +32,7 @@ use Rattle.references.specs.declared.Ampersands.the-variants.{Depth, Ref
 use Rattle.references.specs.declared.Address.the-variants.{Name, Refused as NoName}
 use Rattle.references.specs.declared.Stepped.{Stepped}
 use Rattle.references.specs.declared.Stepped.the-variants.{More, Refused as NoStep}
-use Rattle.references.specs.Answer.{depths, addressed, stepped, stepOf, Unread}
+use Rattle.references.specs.Answer.{depths, addressed, stepped, stepOf}
 use Rattle.references.specs.Answer.{closing, counting, addressing, stepping, elementing, membering, derefEnd}
 use Rattle.rules.specs.Codes.BaseToken as BaseToken
 use Rattle.rules.specs.Codes.ParseNode as ParseNode

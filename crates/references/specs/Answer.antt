@@ -1,9 +1,7 @@
 -- The answers of the code as the rules give them.
 use Prim.Native.Nat.{ℕ, _≤_}
-use mathlib.Core.List.{List}
 use mathlib.Core.Option.{Option}
 use Rattle.codes.specs.Answer.{Form, token}
-use Rattle.codes.specs.Words.{As}
 use Rattle.nodes.specs.Answer.{active}
 use Rattle.references.specs.declared.Ampersands.{Ampersands}
 use Rattle.references.specs.declared.Ampersands.the-variants.{Depth, Refused as NoDepth}
@@ -32,11 +30,6 @@ stepOf (done l) cursor count = Last (active l) (token cursor) count
 
 abbrev pub stepped : Form (Step (Option Ends) (Option Ends)) Stepped
 stepped = record { read = stepOf; refused = NoStep }
-
--- The same of a reader that reads no token: whatever the row is.
-pub record Unread {A R : Type 0} (F : Form A R) (m : Row → Rule Words A) (c : ℕ) (s : Words) (r : R) (ks : List ℕ) :
-    Type 0 where
-  pub run : (row : Row) → As F (m row) c s r ks
 
 -- the rules of any row
 unfoldable pub closing : ℕ → ℕ → ℕ → Row → Rule Words ℕ

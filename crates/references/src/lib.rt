@@ -3,14 +3,14 @@
 ghost use mathlib.Core.Path.{_≡_};
 ghost use Prim.Native.Nat.{_+_, _≤_};
 ghost use lib.ListN.{length};
-ghost use Rattle.rules.specs.Codes.Limit as Most;
+ghost use Rattle.rules.specs.Codes.Limit as Limits;
 ghost use Rattle.rules.specs.Codes.Refusal as Number;
 ghost use Rattle.rules.specs.Words.{words};
 ghost use Rattle.rules.specs.Expressions.{deref, nameAlone};
 ghost use Rattle.codes.specs.Answer.{parsed, refusal};
-ghost use Rattle.codes.specs.Words.{Gives, Untyped, Quiet, nodes};
-ghost use Rattle.nodes.specs.Answer.{Slots, ends, past};
-ghost use Rattle.references.specs.Answer.{Shallow, Near, depths, addressed, stepped, Unread, closing, counting, addressing, stepping, elementing, membering, derefEnd};
+ghost use Rattle.codes.specs.Words.{Gives, Untyped, Quiet, nodes, Unread};
+ghost use Rattle.nodes.specs.Answer.{WithinSlots, ends, past};
+ghost use Rattle.references.specs.Answer.{Shallow, Near, depths, addressed, stepped, closing, counting, addressing, stepping, elementing, membering, derefEnd};
 use codes::BaseToken;
 use codes::Limit;
 use codes::NodeId;
@@ -81,7 +81,7 @@ pub fn push_closed(
     kind: u8,
     inside: NodeId,
 ) -> Parsed
-    requires { ⌜ (cursor .0 ≤ Most.Tokens + 1) × Slots (now «node_words») count ⌝ }
+    requires { ⌜ (cursor .0 ≤ Limits.Tokens + 1) × WithinSlots (now «node_words») count ⌝ }
     ensures { λ r. ⌜ Untyped parsed (closing expected kind (inside .0)) (now (kinds .entry)) (cursor .0) (nodes (now («node_words» .entry)) count) r (now («node_words» .exit)) ⌝ }
 {
     match consume(kinds, cursor, count, expected) {
@@ -108,7 +108,7 @@ pub fn exceeded(cursor: TokenId, count: u32, start: TokenId) -> Parsed
 
 // Further ampersands. The depth is 1 where there are none.
 fn parse_ampersands(kinds: &[u8], cursor: TokenId, count: u32, start: TokenId) -> Ampersands
-    requires { ⌜ (length (now kinds) ≤ Most.Tokens) × (cursor .0 ≤ length (now kinds)) ⌝ }
+    requires { ⌜ (length (now kinds) ≤ Limits.Tokens) × (cursor .0 ≤ length (now kinds)) ⌝ }
     ensures { λ r. ⌜ Quiet depths (counting (start .0)) (now (kinds .entry)) (cursor .0) count r × Shallow r ⌝ }
 {
     let mut at = cursor.0;
@@ -135,7 +135,7 @@ fn parse_ampersands(kinds: &[u8], cursor: TokenId, count: u32, start: TokenId) -
 
 // Further ampersands and the name after them.
 pub fn parse_address(kinds: &[u8], cursor: TokenId, count: u32, start: TokenId) -> Address
-    requires { ⌜ (length (now kinds) ≤ Most.Tokens) × (cursor .0 ≤ length (now kinds)) ⌝ }
+    requires { ⌜ (length (now kinds) ≤ Limits.Tokens) × (cursor .0 ≤ length (now kinds)) ⌝ }
     ensures { λ r. ⌜ Quiet addressed (addressing (start .0)) (now (kinds .entry)) (cursor .0) count r × Near r ⌝ }
 {
     match parse_ampersands(kinds, cursor, count, start) {
@@ -169,7 +169,7 @@ fn push_reference(
     depth: u32,
     name: TokenId,
 ) -> Parsed
-    requires { ⌜ Slots (now «node_words») count × (first .0 ≤ Most.Load) × (start .0 ≤ Most.Load) × (depth ≤ Most.Load) × (name .0 ≤ Most.Load) ⌝ }
+    requires { ⌜ WithinSlots (now «node_words») count × (first .0 ≤ Limits.Load) × (start .0 ≤ Limits.Load) × (depth ≤ Limits.Load) × (name .0 ≤ Limits.Load) ⌝ }
     ensures { λ r. ⌜ Gives (deref words (start .0) depth (name .0) (first .0)) (cursor .0) (nodes (now («node_words» .entry)) count) r (now («node_words» .exit)) ⌝ }
 {
     let steps = push_two(
@@ -210,7 +210,7 @@ pub fn push_deref(
     depth: u32,
     name: TokenId,
 ) -> Parsed
-    requires { ⌜ Slots (now «node_words») count × (past list ≤ count) × (start .0 ≤ Most.Load) × (depth ≤ Most.Load) × (name .0 ≤ Most.Load) ⌝ }
+    requires { ⌜ WithinSlots (now «node_words») count × (past list ≤ count) × (start .0 ≤ Limits.Load) × (depth ≤ Limits.Load) × (name .0 ≤ Limits.Load) ⌝ }
     ensures { λ r. ⌜ Gives (derefEnd (ends list) (start .0) depth (name .0)) (cursor .0) (nodes (now («node_words» .entry)) count) r (now («node_words» .exit)) ⌝ }
 {
     let steps = push_end_of_list(node_words, cursor, count, list);
@@ -227,7 +227,7 @@ pub fn push_deref(
 
 // A name with no step.
 pub fn push_name(node_words: &mut [u32], cursor: TokenId, count: u32, name: TokenId) -> Parsed
-    requires { ⌜ Slots (now «node_words») count × (name .0 ≤ Most.Load) ⌝ }
+    requires { ⌜ WithinSlots (now «node_words») count × (name .0 ≤ Limits.Load) ⌝ }
     ensures { λ r. ⌜ Gives (nameAlone words (name .0)) (cursor .0) (nodes (now («node_words» .entry)) count) r (now («node_words» .exit)) ⌝ }
 {
     let list = start_list();
@@ -242,7 +242,7 @@ pub fn push_step(
     list: ActiveList,
     content: NodeId,
 ) -> Stepped
-    requires { ⌜ Slots (now «node_words») count × (past list ≤ count) ⌝ }
+    requires { ⌜ WithinSlots (now «node_words») count × (past list ≤ count) ⌝ }
     ensures { λ r. ⌜ Unread stepped (stepping (ends list) (content .0)) (cursor .0) (nodes (now («node_words» .entry)) count) r (now («node_words» .exit)) ⌝ }
 {
     match push_list_item(node_words, cursor, count, list) {
@@ -268,7 +268,7 @@ pub fn finish_element(
     list: ActiveList,
     index: NodeId,
 ) -> Stepped
-    requires { ⌜ (cursor .0 ≤ Most.Tokens + 1) × Slots (now «node_words») count × (past list ≤ count) ⌝ }
+    requires { ⌜ (cursor .0 ≤ Limits.Tokens + 1) × WithinSlots (now «node_words») count × (past list ≤ count) ⌝ }
     ensures { λ r. ⌜ Untyped stepped (elementing (ends list) (index .0)) (now (kinds .entry)) (cursor .0) (nodes (now («node_words» .entry)) count) r (now («node_words» .exit)) ⌝ }
 {
     let step = push_closed(
@@ -299,7 +299,7 @@ pub fn parse_member(
     count: u32,
     list: ActiveList,
 ) -> Stepped
-    requires { ⌜ (cursor .0 ≤ Most.Tokens + 1) × Slots (now «node_words») count × (past list ≤ count) ⌝ }
+    requires { ⌜ (cursor .0 ≤ Limits.Tokens + 1) × WithinSlots (now «node_words») count × (past list ≤ count) ⌝ }
     ensures { λ r. ⌜ Untyped stepped (membering (ends list)) (now (kinds .entry)) (cursor .0) (nodes (now («node_words» .entry)) count) r (now («node_words» .exit)) ⌝ }
 {
     match consume(kinds, cursor, count, BaseToken::Identifier) {

@@ -10,15 +10,15 @@ use Rattle.packing.specs.declared.Packed.{Packed}
 use Rattle.packing.specs.declared.Packed.the-variants.{Word, Refused as NoWord}
 
 -- the places of a reply: its case and five numbers
-abbrev pub Places : ℕ
-Places = 6
+abbrev pub ReplyNumbers : ℕ
+ReplyNumbers = 6
 
 -- the cases
-abbrev pub Accepted : ℕ
-Accepted = 0
+abbrev pub AcceptedCase : ℕ
+AcceptedCase = 0
 
-abbrev pub Refused' : ℕ
-Refused' = 1
+abbrev pub RefusedCase : ℕ
+RefusedCase = 1
 
 -- the column rs with its first six places anew
 unfoldable pub placed : List ℕ → ℕ → ℕ → ℕ → ℕ → ℕ → ℕ → List ℕ
@@ -26,12 +26,12 @@ placed rs case a b c d e = set (set (set (set (set (set rs 0 case) 1 a) 2 b) 3 c
 
 -- the values of a reply in their order, by its case (MANUAL.md, Replies)
 abbrev pub written : List ℕ → Parsed → List ℕ
-written rs (Node root cursor count) = placed rs Accepted (root .0) (cursor .0) count 0 0
-written rs (Refused number cursor count start end) = placed rs Refused' number (start .0) (end .0) (cursor .0) count
+written rs (Node root cursor count) = placed rs AcceptedCase (root .0) (cursor .0) count 0 0
+written rs (Refused number cursor count start end) = placed rs RefusedCase number (start .0) (end .0) (cursor .0) count
 
 -- a word, or the refusal of one: the word stands where an acceptance has its root
 abbrev pub writtenWord : List ℕ → Packed → List ℕ
-writtenWord rs (Word word) = placed rs Accepted word 0 0 0 0
+writtenWord rs (Word word) = placed rs AcceptedCase word 0 0 0 0
 writtenWord rs (NoWord refusal) = written rs refusal
 
 -- There is a reply with the promise P, and it is written to the column by W; nothing else of this column changed.
@@ -44,5 +44,5 @@ pub record Given {R : Type 0} (W : List ℕ → R → List ℕ) (P : R → Type 
 -- The result, done, says whether there were enough places; where there were not, nothing was written (Kept).
 pub record Replied {R : Type 0} (W : List ℕ → R → List ℕ) (P : R → Type 0) (Kept : Type 0) (rs : List ℕ) (done : Bool)
     (rs' : List ℕ) : Type 0 where
-  pub given : Places ≤ length rs → (done ≡ true) × Given W P rs rs'
-  pub short : length rs < Places → (done ≡ false) × Kept × (rs' ≡ rs)
+  pub given : ReplyNumbers ≤ length rs → (done ≡ true) × Given W P rs rs'
+  pub short : length rs < ReplyNumbers → (done ≡ false) × Kept × (rs' ≡ rs)

@@ -3,7 +3,7 @@
 ghost use mathlib.Core.Path.{_≡_};
 ghost use Prim.Native.Nat.{_≤_};
 ghost use lib.ListN.{length};
-ghost use Rattle.replies.specs.Reply.{Places, placed, written, writtenWord};
+ghost use Rattle.replies.specs.Reply.{ReplyNumbers, placed, written, writtenWord};
 use codes::Parsed;
 use packing::Packed;
 
@@ -17,7 +17,7 @@ const REFUSED: u32 = 1;
 
 // The first six places of the column anew.
 fn place(reply: &mut [u32], case: u32, a: u32, b: u32, c: u32, d: u32, e: u32)
-    requires { ⌜ Places ≤ length (now reply) ⌝ }
+    requires { ⌜ ReplyNumbers ≤ length (now reply) ⌝ }
     ensures { λ r. ⌜ now (reply .exit) ≡ placed (now (reply .entry)) «case» a b c d e ⌝ }
 {
     reply[0] = case;
@@ -30,7 +30,7 @@ fn place(reply: &mut [u32], case: u32, a: u32, b: u32, c: u32, d: u32, e: u32)
 
 // A reply as numbers in the column.
 pub fn write(reply: &mut [u32], parsed: Parsed)
-    requires { ⌜ Places ≤ length (now reply) ⌝ }
+    requires { ⌜ ReplyNumbers ≤ length (now reply) ⌝ }
     ensures { λ r. ⌜ now (reply .exit) ≡ written (now (reply .entry)) parsed ⌝ }
 {
     match parsed {
@@ -51,7 +51,7 @@ pub fn write(reply: &mut [u32], parsed: Parsed)
 
 // A word, or its refusal, as numbers in the column.
 pub fn write_word(reply: &mut [u32], packed: Packed)
-    requires { ⌜ Places ≤ length (now reply) ⌝ }
+    requires { ⌜ ReplyNumbers ≤ length (now reply) ⌝ }
     ensures { λ r. ⌜ now (reply .exit) ≡ writtenWord (now (reply .entry)) packed ⌝ }
 {
     match packed {

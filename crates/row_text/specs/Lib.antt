@@ -1,2 +1,2 @@
-pub mod Most
+pub mod LineLimits
 pub mod Read

@@ -6,12 +6,20 @@
 // after a `*` how often they stand, if not once. A token is its kind, and after a `/` its value type, if that is not
 // i32. EndOfSource is a token like any other. Words need spaces between them; else spaces are free outside of words.
 // A program may have other settings in the place of SLOTS, each a name and a number.
-ghost use Prim.Native.Nat.{ℕ, _+_, _-_, _*_, _≤_, _<_};
+ghost use Prim.Native.Nat.{_+_, _-_, _*_, _≤_};
 ghost use mathlib.Core.Path.{_≡_};
-ghost use lib.ListN.{length, getD};
-ghost use Rattle.row_text.specs.Most as Most;
-ghost use Rattle.row_text.specs.Read.{Within, Numbered, Counted, Fits};
+ghost use lib.ListN.{length};
+ghost use Rattle.row_text.specs.LineLimits as LineLimits;
+ghost use Rattle.row_text.specs.Read.{Counted, Fits};
+ghost use Rattle.lines.specs.Numbers.{Numbered};
 use codes::ValueTypeKeyword;
+use lines::Decimal;
+use lines::after;
+use lines::find;
+use lines::named;
+use lines::number;
+use lines::skip;
+use lines::trim;
 
 // The tokens that the columns hold: one more than an entry takes, so that a line can say a row that is too long.
 pub const TOKENS: usize = 65_536;
@@ -21,21 +29,11 @@ const ROW_TOKENS: usize = 512;
 
 pub const SLOTS: u32 = 512;
 
-// Numbers are decimal.
-const BASE: u64 = 10;
-
 // Kinds and value types are bytes.
 const BYTE: u32 = 255;
 
 // Words stand at most so often.
 const TIMES: u32 = 65_536;
-
-// A number and the place after it; 0 where none was found.
-pub struct Decimal {
-    pub found: bool,
-    pub value: u32,
-    pub next: usize,
-}
 
 // How many tokens there are once some were read, and the place after these; or that they could not be read.
 pub struct Tokens {
@@ -52,125 +50,16 @@ pub struct Row {
     pub tokens: usize,
 }
 
-// The first place from here on with this byte, or the line's end.
-pub fn find(line: &[u8], from: usize, byte: u8) -> usize
-    requires { ⌜ from ≤ length (now line) ⌝ }
-    ensures within { λ r. ⌜ Within (now (line .entry)) from r ⌝ }
-    ensures before { λ r. ⌜ ((k : ℕ) → k < r → from ≤ k → getD (now (line .entry)) k 0 ≡ byte → ⊥) ⌝ }
-    ensures found { λ r. ⌜ (r < length (now (line .entry)) → getD (now (line .entry)) r 0 ≡ byte) ⌝ }
-{
-    let mut at = from;
-    while at < line.len() {
-        if line[at] == byte {
-            return at;
-        }
-        at += 1;
-    }
-    at
-}
-
-// The place after this byte if it stands here, else this place.
-pub fn after(line: &[u8], from: usize, byte: u8) -> usize
-    requires { ⌜ from ≤ length (now line) ⌝ }
-    ensures { λ r. ⌜ Within (now (line .entry)) from r ⌝ }
-{
-    if from < line.len() {
-        if line[from] == byte {
-            return from + 1;
-        }
-    }
-    from
-}
-
-// The first place from here on without a space, or the line's end.
-pub fn skip(line: &[u8], from: usize) -> usize
-    requires { ⌜ from ≤ length (now line) ⌝ }
-    ensures { λ r. ⌜ Within (now (line .entry)) from r ⌝ }
-{
-    let mut at = from;
-    while at < line.len() {
-        if line[at] != b' ' {
-            return at;
-        }
-        at += 1;
-    }
-    at
-}
-
-// The end of the line's first part, which ends here, without the spaces before its end.
-pub fn trim(line: &[u8], end: usize) -> usize
-    requires { ⌜ end ≤ length (now line) ⌝ }
-    ensures { λ r. ⌜ r ≤ end ⌝ }
-{
-    let mut at = end;
-    while at > 0 {
-        if line[at - 1] != b' ' {
-            return at;
-        }
-        at -= 1;
-    }
-    at
-}
-
-// The value of a digit, and BASE for what is none.
-fn digit(byte: u8) -> u64
-    ensures { λ r. ⌜ r ≤ Most.Digit ⌝ }
-{
-    if byte < b'0' {
-        return BASE;
-    }
-    if b'9' < byte {
-        return BASE;
-    }
-    wide(byte - b'0') as u64
-}
-
-fn wide(byte: u8) -> u32
-    ensures { λ r. ⌜ r ≡ byte ⌝ }
-{
-    byte as u32
-}
-
-// The number at this place, if it is at most so large.
-pub fn number(line: &[u8], from: usize, most: u32) -> Decimal
-    requires { ⌜ from ≤ length (now line) ⌝ }
-    ensures { λ r. ⌜ Numbered (now (line .entry)) from most r ⌝ }
-{
-    let limit = most as u64;
-    let mut at = from;
-    let mut value: u64 = 0;
-    while at < line.len() {
-        let more = digit(line[at]);
-        if limit < value || more == BASE {
-            break;
-        }
-        value = value * BASE + more;
-        at += 1;
-    }
-    if value <= limit {
-        return Decimal {
-            found: from < at,
-            value: value as u32,
-            next: at,
-        };
-    }
-    Decimal {
-        found: false,
-        value: 0,
-        next: at,
-    }
-}
-
 // The value type after a `/` at this place, or i32 where there is none.
 fn value_type(line: &[u8], from: usize) -> Decimal
     requires { ⌜ from ≤ length (now line) ⌝ }
-    ensures { λ r. ⌜ Numbered (now (line .entry)) from Most.Byte r ⌝ }
+    ensures { λ r. ⌜ Numbered (now (line .entry)) from LineLimits.Byte r ⌝ }
 {
     let inside = after(line, from, b'/');
     if inside == from {
         return Decimal {
             found: true,
-            value: wide(ValueTypeKeyword::Int32),
+            value: ValueTypeKeyword::Int32 as u32,
             next: from,
         };
     }
@@ -185,7 +74,7 @@ fn read_token(
     types: &mut [u8; TOKENS],
     count: usize,
 ) -> Tokens
-    requires { ⌜ (from ≤ length (now line)) × (count ≤ Most.Room) ⌝ }
+    requires { ⌜ (from ≤ length (now line)) × (count ≤ LineLimits.Room) ⌝ }
     ensures { λ r. ⌜ Counted (now (line .entry)) from count r ⌝ }
 {
     let kind = number(line, from, BYTE);
@@ -216,7 +105,7 @@ fn read_group(
     types: &mut [u8; TOKENS],
     count: usize,
 ) -> Tokens
-    requires { ⌜ (from ≤ length (now line)) × (count ≤ Most.Room) ⌝ }
+    requires { ⌜ (from ≤ length (now line)) × (count ≤ LineLimits.Room) ⌝ }
     ensures { λ r. ⌜ Counted (now (line .entry)) from count r ⌝ }
 {
     let mut at = from;
@@ -235,7 +124,7 @@ fn read_group(
 
 // The tokens from `first` up to `past` again and again, until there are `end`.
 fn repeat(kinds: &mut [u8; TOKENS], types: &mut [u8; TOKENS], first: usize, past: usize, end: usize)
-    requires { ⌜ (first ≤ past) × (end ≤ Most.Room) ⌝ }
+    requires { ⌜ (first ≤ past) × (end ≤ LineLimits.Room) ⌝ }
 {
     let mut from = first;
     let mut to = past;
@@ -249,7 +138,7 @@ fn repeat(kinds: &mut [u8; TOKENS], types: &mut [u8; TOKENS], first: usize, past
 
 // How many tokens there are if those from `first` up to `past` stand so often.
 fn repeated(first: usize, past: usize, times: usize) -> usize
-    requires { ⌜ (first ≤ past) × (past ≤ Most.Room) × (times ≤ Most.Times) ⌝ }
+    requires { ⌜ (first ≤ past) × (past ≤ LineLimits.Room) × (times ≤ LineLimits.Times) ⌝ }
     ensures { λ r. ⌜ r ≡ first + (past - first) * times ⌝ }
 {
     first + (past - first) * times
@@ -263,7 +152,7 @@ fn read_word(
     types: &mut [u8; TOKENS],
     count: usize,
 ) -> Tokens
-    requires { ⌜ (from ≤ length (now line)) × (count ≤ Most.Room) ⌝ }
+    requires { ⌜ (from ≤ length (now line)) × (count ≤ LineLimits.Room) ⌝ }
     ensures { λ r. ⌜ Counted (now (line .entry)) from count r ⌝ }
 {
     let group = read_group(line, from, kinds, types, count);
@@ -323,28 +212,8 @@ pub fn read_tokens(
     }
 }
 
-// The place after this name if it stands here, else this place.
-pub fn named(line: &[u8], from: usize, name: &[u8]) -> usize
-    requires { ⌜ from ≤ length (now line) ⌝ }
-    ensures { λ r. ⌜ Within (now (line .entry)) from r ⌝ }
-{
-    let mut at = from;
-    let mut read: usize = 0;
-    while read < name.len() {
-        if line.len() <= at {
-            return from;
-        }
-        if line[at] != name[read] {
-            return from;
-        }
-        at += 1;
-        read += 1;
-    }
-    at
-}
-
 // The number after this name, if the name stands here, and the place of what follows; else the other number, and this
-// place.
+// place. Which of the two it is is free in the promise, as what read_tokens and read_row read is.
 pub fn setting(line: &[u8], from: usize, name: &[u8], most: u32, other: u32) -> Decimal
     requires { ⌜ (from ≤ length (now line)) × (other ≤ most) ⌝ }
     ensures { λ r. ⌜ Numbered (now (line .entry)) from most r ⌝ }

@@ -32,7 +32,7 @@ beside o = record {
   paid = λ _ _ _ _ _ _ _ _ h. record { on = h .on; placed = h .placed };
   less = λ _ _ _ _ _ _ h. h;
   aside = λ _ t F _ s s' h. record { on = h .on; placed = tt };
-  shared = λ _ _. tt;
+  shared = λ _ _ _ _ _ _. tt;
   node = λ _ ts F k l l' e d. rw (← equal (Beside o) k l l' (λ x. x) d) (node-beside {ts = ts} k l (parts-of k e));
   leaf = λ _ ts F k l l' e d. rw (← equal (Beside o) k l l' (λ x. x) d) (leaf-beside {ts = ts} k l (parts-of k e));
   link = λ _ ts F k u e. link-beside {ts = ts} k u (parts-of k e);

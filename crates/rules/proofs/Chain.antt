@@ -13,7 +13,7 @@ use Rattle.rules.specs.Lists as Lists
 use Rattle.rules.specs.Columns.{Nodes, append, patch, pushListItem, pushEndOfList}
 use Rattle.rules.specs.Ways.{parts}
 use Rattle.rules.proofs.Ways.{Numbered, numbered, rnil, rcons, root, strip, Stands, times}
-use Rattle.rules.proofs.Laid.{Claim, nothing, cell, tree, _⋆_, holds, counts, On, turn, appended, patched, kept}
+use Rattle.rules.proofs.Laid.{Claim, nothing, cell, tree, _⋆_, holds, counts, On, turn, appended, patched, framed}
 use Rattle.rules.proofs.Sim.{Sim, Via, _then_}
 use Rattle.rules.proofs.Grow.{Beside, At, append-sim}
 
@@ -100,7 +100,7 @@ module _ {o : Nodes} {F : Claim} where
         (λ x. ((x .1 .0, (x .1 .1 .0, (x .0, (x .1 .1 .1 .0, x .1 .1 .1 .1 .0)))), x .1 .1 .1 .1 .1))
         (λ m. omega arith)
         (patched (root u + 1) ParseNode.UnpatchedListItem 0 ParseNode.ListItem (root t + 1) moved) in
-        (e, kept on, (t ∷ u ∷ us, refl, refl, record { on = on; placed = tt }));
+        (e, framed on, (t ∷ u ∷ us, refl, refl, record { on = on; placed = tt }));
   }
 
   -- an item is added after its content
@@ -151,7 +151,7 @@ module _ {o : Nodes} {F : Claim} where
             (λ m. omega (arith, chained-times (u ∷ us) end m))
             (patched (root u + 1) ParseNode.UnpatchedListItem 0 ParseNode.ListItem n moved) in (
               e,
-              kept on,
+              framed on,
               (
                 chained (u ∷ us) end,
                 chained-root (u ∷ us) end,

@@ -1,27 +1,24 @@
 -- The rules for declarations agree, over any two rows and builders of a model.
 use Prim.Native.Nat.{ℕ}
-use mathlib.Core.Bool.{false}
 use mathlib.Core.Path.{_≡_, refl}
 use mathlib.Core.List.{List, []}
-use lib.Dec.{eqb}
-use Rattle.rules.specs.Codes.Refusal as Refusal
+use Rattle.rules.specs.Places.{placeOf, untaken}
 use Rattle.rules.specs.Reading.{Row}
 use Rattle.rules.specs.Builder.{Builder}
 use Rattle.rules.specs.Declarations.{colon, typed, value, constantEnd, constant, member, memberEnd, memberItem}
 use Rattle.rules.specs.Declarations.{memberList, members, structure, struct, word}
 use Rattle.rules.proofs.Sim.{Relation, Token, Sim, Alike, Any, _same_, _for_, each, opens, gives, eased}
-use Rattle.rules.proofs.Sim.{refuse-sim}
 use Rattle.rules.proofs.Rounds.{Stepped}
 use Rattle.rules.proofs.Model.{Rows, Model, plus}
 use Rattle.rules.proofs.Steps.{One, First, Open, Gains, Follows, spare, stays, under, closed-at-once}
-use Rattle.rules.proofs.Steps.{node-sim, leaf-sim, link-sim, close-sim, here-sim, consume-sim}
-use Rattle.rules.proofs.Steps.{optionally, _otherwise_, loop-sim}
+use Rattle.rules.proofs.Steps.{node-sim, leaf-sim, link-sim, close-sim, here-sim, here-at, consume-sim}
+use Rattle.rules.proofs.Steps.{refuse-at, optionally, optionally-from, _otherwise_, loop-sim}
 use Rattle.rules.proofs.Types.{type-rule}
 use Rattle.rules.proofs.References.{step-end}
 use Rattle.rules.proofs.Expressions.{expression-rule}
 
 module _ {B B' : Builder} {rel : Relation (B .S) (B' .S)} (M : Model B B' rel) where
-  open Model M using (N, nodeˡ, nodeʳ, L, listˡ, listʳ, Besides, held, opened, At, begin, shared)
+  open Model M using (N, nodeˡ, nodeʳ, L, listˡ, listʳ, Besides, held, opened, At, begin)
 
   structure-sim :
       {x : ℕ} {F : Besides} (start : Token rel) (flags size : ℕ) (name : Token rel) (l : N) →
@@ -38,17 +35,17 @@ module _ {B B' : Builder} {rel : Relation (B .S) (B' .S)} (M : Model B B' rel) w
 
   module _ {row row' : Row} (R : Rows rel row row') where
     colon-sim :
-        {x : ℕ} {ts : List N} {F : Besides} (number : ℕ) → eqb number Refusal.NoSlot ≡ false →
+        {x : ℕ} {ts : List N} {F : Besides} (number : ℕ) → placeOf number ≡ untaken →
         Sim rel (At x ts F) (Alike Any (At (plus 5 x) ts F)) (colon B row number) (colon B' row' number)
     unfolding colon
     colon-sim number e =
-        here-sim for each λ at.
-        optionally M R _ (
+        here-at for each λ at.
+        optionally-from M R (λ c s s' p. p .1) _ (
         (gives λ c s s' p. (refl, tt, p)) otherwise
-        refuse-sim (shared number e) at at)
+        refuse-at M untaken e at at λ _ _ _. (refl, refl))
 
     pub typed-sim :
-        (number unused : ℕ) → eqb number Refusal.NoSlot ≡ false →
+        (number unused : ℕ) → placeOf number ≡ untaken →
         Gains M 10 (typed B row number unused) (typed B' row' number unused)
     unfolding typed
     typed-sim number unused e x F =

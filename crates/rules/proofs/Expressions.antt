@@ -6,14 +6,16 @@ use mathlib.Core.List.{[]}
 use Rattle.rules.specs.Codes.{pick}
 use Rattle.rules.specs.Reading.{Rule, Row}
 use Rattle.rules.specs.Builder.{Builder}
+use Rattle.rules.specs.Places.{taken, untaken}
 use Rattle.rules.specs.Expressions.{takesUnary, field, items, named, builtin, parenthesized, primary, prefixed}
 use Rattle.rules.specs.Expressions.{lengthOf, unary, singular, factor, product, term, sum, expression}
 use Rattle.rules.proofs.Sim.{Relation, Token, Sim, other, _or_, _same_, _for_, each, opens, eased}
-use Rattle.rules.proofs.Sim.{refuse-sim, choose-sim}
+use Rattle.rules.proofs.Sim.{choose-from, choose-sim}
 use Rattle.rules.proofs.Rounds.{Stepped}
 use Rattle.rules.proofs.Model.{Rows, Model, plus}
-use Rattle.rules.proofs.Steps.{One, Follows, Costs, spare, fewer, node-sim, leaf-sim}
-use Rattle.rules.proofs.Steps.{here-sim, peek-sim, take-sim, consume-sim, optionally, _otherwise_, loop-sim}
+use Rattle.rules.proofs.Steps.{One, Follows, Costs, spare, fewer, node-sim, leaf-sim, refuse-at}
+use Rattle.rules.proofs.Steps.{here-sim, here-at, peek-sim, take-sim, take-at, consume-sim}
+use Rattle.rules.proofs.Steps.{optionally, _otherwise_, loop-sim}
 use Rattle.rules.proofs.Types.{type-rule}
 use Rattle.rules.proofs.Operators.{Awaited, opening, awaits, joins, repeats, shifts, Awaits, due, waiting}
 use Rattle.rules.proofs.Operators.{pendingˡ, pendingʳ, prefix-sim, factor-end, term-end}
@@ -24,7 +26,7 @@ use Rattle.rules.proofs.Casts.{size-of, singular-end}
 
 module _ {B B' : Builder} {rel : Relation (B .S) (B' .S)} (M : Model B B' rel)
     {row row' : Row} (R : Rows rel row row') where
-  open Model M using (N, Besides, At, shared)
+  open Model M using (N, Besides, At)
 
   -- an expression of less nesting, and a type
   module _ {e : Rule (B .S) (B .N)} {e' : Rule (B' .S) (B' .N)} (expr : Follows M e e')
@@ -78,9 +80,9 @@ module _ {B B' : Builder} {rel : Relation (B .S) (B' .S)} (M : Model B B' rel)
     pub primary-sim : Follows M (primary B row e) (primary B' row' e')
     unfolding primary
     primary-sim x F =
-        here-sim for each λ at.
-        take-sim M R same λ k _.
-        choose-sim k (spare M 4 (leaf-sim M refl (at .both)) or
+        here-at for each λ at.
+        take-at M R at same λ k _.
+        choose-from (λ c s s' p. p .1) k (spare M 4 (leaf-sim M refl (at .both)) or
         spare M 4 (leaf-sim M refl (at .both)) or
         spare M 3 (typed-integer M R at) or
         spare M 4 (leaf-sim M refl (at .both)) or
@@ -91,7 +93,7 @@ module _ {B B' : Builder} {rel : Relation (B .S) (B' .S)} (M : Model B B' rel)
         spare M 5 (builtin-sim at x F) or
         spare M 3 (items-sim array x F) or
         spare M 5 (parenthesized-sim x F) or
-        other (refuse-sim (shared _ refl) at at))
+        other (refuse-at M taken refl at at λ _ _ _. (refl, refl)))
 
     prefixed-sim : (op : ℕ) → Follows M (prefixed B row e op) (prefixed B' row' e' op)
     unfolding prefixed
@@ -169,5 +171,5 @@ module _ {B B' : Builder} {rel : Relation (B .S) (B' .S)} (M : Model B B' rel)
 
   pub expression-rule : (unused : ℕ) → Follows M (expression B row unused) (expression B' row' unused)
   unfolding expression
-  expression-rule zero x F = here-sim for each λ at. refuse-sim (shared _ refl) at at
+  expression-rule zero x F = here-at for each λ at. refuse-at M untaken refl at at λ _ _ _. (refl, refl)
   expression-rule (suc unused) x F = sum-sim (expression-rule unused) (type-rule M R unused) x F

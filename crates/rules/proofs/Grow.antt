@@ -11,13 +11,13 @@ use borrow.Author.Tests.{ltb-true, le-leb}
 use Rattle.rules.specs.Reading.{ok, pure}
 use Rattle.rules.specs.Codes.Refusal as Refusal
 use Rattle.rules.specs.Codes.{linked, partsOf}
-use Rattle.rules.specs.Demand.{Kept}
+use Rattle.rules.specs.Frame.{Frame}
 use Rattle.rules.specs.Trees.{node, fnil, fcons, forest}
 use Rattle.rules.specs.Columns.{Nodes, written, append}
 use Rattle.rules.specs.Ways.{links, place, parts}
 use Rattle.rules.proofs.Ways.{Numbered, Row, numbered, rnil, rcons, root, roots, strip, strips}
 use Rattle.rules.proofs.Ways.{All, timesAll}
-use Rattle.rules.proofs.Laid.{Claim, tree, _⋆_, holds, counts, On, turn, appended, kept}
+use Rattle.rules.proofs.Laid.{Claim, tree, _⋆_, holds, counts, On, turn, appended, framed}
 use Rattle.rules.proofs.Sim.{Relation, Known, Sim, Both, Via}
 use Rattle.rules.proofs.Model.{backs}
 
@@ -25,9 +25,9 @@ use Rattle.rules.proofs.Model.{backs}
 abbrev pub Beside : Nodes → Relation Nodes (Unit {0})
 Beside o = record {
   Cursors = λ c c'. c ≡ c';
-  States = λ s _. Kept o s;
-  Excused = λ x _ s. ((x ≡ Refusal.NoSlot) ⊎ (x ≡ Refusal.OutOfRounds)) × Kept o s;
-  Shared = λ _. Unit {0};
+  States = λ s _. Frame o s;
+  Excused = λ x _ s. ((x ≡ Refusal.NoSlot) ⊎ (x ≡ Refusal.OutOfRounds)) × Frame o s;
+  Shared = λ _ _ _ _ _. Unit {0};
 }
 
 abbrev row : List Numbered → Row
@@ -93,9 +93,9 @@ module _ {o : Nodes} {P : Known Nodes (Unit {0})} {B : Type 0} {Q : ℕ → B �
   }
     where
       go :
-          (c : ℕ) (s : Nodes) → Kept o s → P c s tt → (t : Bool) → ltb (s .count) (length (s .kinds)) ≡ t →
+          (c : ℕ) (s : Nodes) → Frame o s → P c s tt → (t : Bool) → ltb (s .count) (length (s .kinds)) ≡ t →
           Both (Beside o) Q (append k l c s .result) (append k l c s .cursor) (append k l c s .state) (ok b) c tt
-      go c s h p true e = let (F, x, y) = f c s p (ltb-true (s .count) (length (s .kinds)) e) in rw e (refl, kept x, y)
+      go c s h p true e = let (F, x, y) = f c s p (ltb-true (s .count) (length (s .kinds)) e) in rw e (refl, framed x, y)
       go c s h p false e = rw e (inl (inl refl, h))
 
 module _ {o : Nodes} {F : Claim} where

@@ -10,15 +10,18 @@
 -- shown to agree only if it appends at most five nodes a token. A model with no use for that lets `At` ignore x.
 use Prim.Native.Nat.{ℕ, zero, suc, _+_, _≤_, _<_}
 use mathlib.Core.Bool.{Bool, true, false}
+use mathlib.Core.Logic.{_≢_}
 use mathlib.Core.Path.{_≡_, refl, ap}
 use mathlib.Core.List.{List, [], _∷_, map}
 use lib.ListN.{length}
-use lib.Dec.{eqb, ltb}
+use lib.Dec.{ltb}
 use native.Mathlib.Omega.{arith}
 use Rattle.rules.specs.Codes.{Part, back, linked, partsOf, holdsToken}
 use Rattle.rules.specs.Codes.Refusal as Refusal
 use Rattle.rules.specs.Reading.{Row, kindOf, typeOf}
 use Rattle.rules.specs.Builder.{Builder}
+use Rattle.rules.specs.Columns.{Nodes}
+use Rattle.rules.specs.Places.{Placed}
 use Rattle.rules.proofs.Sim.{Relation, Known, Sim, Via}
 
 -- What is asked of two rows.
@@ -36,7 +39,8 @@ pub record Rows {S S' : Type 0} (rel : Relation S S') (row row' : Row) : Type 0 
 
 -- one row, read twice
 pub one-row :
-    {S S' : Type 0} (States : S → S' → Type 0) (Excused : ℕ → ℕ → S → Type 0) (Shared : ℕ → Type 0) (row : Row) →
+    {S S' : Type 0} (States : S → S' → Type 0) (Excused : ℕ → ℕ → S → Type 0)
+    (Shared : ℕ → ℕ → ℕ → ℕ → S → Type 0) (row : Row) →
     ((c : ℕ) (s : S) (s' : S') → States s s' → Excused Refusal.OutOfRounds c s) →
     Rows (record { Cursors = λ c c'. c ≡ c'; States = States; Excused = Excused; Shared = Shared }) row row
 one-row States Excused Shared row h = record {
@@ -87,6 +91,11 @@ abbrev pub plus : ℕ → ℕ → ℕ
 plus zero x = x
 plus (suc k) x = suc (plus k x)
 
+-- A refusal in the parse, by number, start, end and cursor, has a number of the list and its place, whatever was given
+-- and whatever is built; but for a loop that ran out, or an expected kind without a number, both of which are 0.
+abbrev pub Placing : ℕ → ℕ → ℕ → ℕ → Type 0
+Placing n x y c = n ≢ Refusal.OutOfRounds → (given : ℕ) (o : Nodes) (count : ℕ) → Placed given o n x y c count
+
 -- What is asked of two builders.
 pub record Model (B B' : Builder) (rel : Relation (B .S) (B' .S)) : Type 1 where
   -- a node that both have, with its form in each, and an open list likewise
@@ -114,7 +123,7 @@ pub record Model (B B' : Builder) (rel : Relation (B .S) (B' .S)) : Type 1 where
       (x : ℕ) (t : N) (F : Besides) (c : ℕ) (s : B .S) (s' : B' .S) →
       At x (t ∷ []) F c s s' → At x [] (held t F) c s s'
   -- any refusal but the one for want of a slot can be shared
-  pub shared : (n : ℕ) → eqb n Refusal.NoSlot ≡ false → rel .Shared n
+  pub shared : (n x y c : ℕ) (s : B .S) → Placing n x y c → rel .Shared n x y c s
   -- a node is appended whose parts are the nodes just before it
   pub node :
       (x : ℕ) (ts : List N) (F : Besides) (k l l' : ℕ) → Kind k (backs 1 ts) → Loaded rel k l l' →

@@ -6,7 +6,7 @@ use lib.Dec.{eqb}
 use Rattle.rules.specs.Reading.{Row, pure, done}
 use Rattle.rules.specs.Builder.{Builder}
 use Rattle.rules.specs.Expressions.{Bitwise, tokenOf, opOf, Pending, first, joined, bitwise, shift}
-use Rattle.rules.specs.Expressions.{binary, prefix, joinedTo, after}
+use Rattle.rules.specs.Expressions.{binary, prefix, joinedTo, operandNext}
 use Rattle.rules.specs.Expressions.{nextFactor, nextTerm, nextBit, follows, factorEnd, termEnd}
 use Rattle.rules.proofs.Sim.{Relation, Known, Token, Sim, Via, other, _or_, _same_, _for_, each, gives}
 use Rattle.rules.proofs.Sim.{pick-sim, choose-sim}
@@ -89,8 +89,8 @@ module _ {B B' : Builder} {rel : Relation (B .S) (B' .S)} (M : Model B B' rel) w
       after-sim :
           (op : Operator (Token rel)) →
           Sim rel (At x (t ∷ []) F) (Stepped (Awaits x F) (One M x F))
-          (after B row (pendingˡ (awaits t op))) (after B' row' (pendingʳ (awaits t op)))
-      unfolding after
+          (operandNext B row (pendingˡ (awaits t op))) (operandNext B' row' (pendingʳ (awaits t op)))
+      unfolding operandNext
       after-sim op =
           take-sim M R same λ _ _.
           spare M 2 (gives λ c s s' q. (awaits t op, refl, refl, aside (plus 3 x) t F c s s' q))

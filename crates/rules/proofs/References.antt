@@ -6,20 +6,21 @@ use lib.Dec.{ltb}
 use Rattle.rules.specs.Codes.Limit as Limit
 use Rattle.rules.specs.Reading.{Rule, Row}
 use Rattle.rules.specs.Builder.{Builder}
+use Rattle.rules.specs.Places.{span}
 use Rattle.rules.specs.Expressions.{deref, nameAlone, exceeded, ampersand, ampersands, address, stepEnd}
 use Rattle.rules.specs.Expressions.{elementEnd, member, step, steps, stepped, reference, advanced, pointer}
 use Rattle.rules.proofs.Sim.{Relation, Known, Token, Sim, Alike, Any, Via, _same_, _for_, each, opens, alike}
-use Rattle.rules.proofs.Sim.{gives, eased, refuse-sim, pick-sim}
+use Rattle.rules.proofs.Sim.{gives, eased, pick-sim}
 use Rattle.rules.proofs.Rounds.{Stepped, repeat-sim}
 use Rattle.rules.proofs.Model.{Rows, Model, plus}
 use Rattle.rules.proofs.Steps.{One, First, Open, Follows, spare, stays, under, closed-at-once}
-use Rattle.rules.proofs.Steps.{node-sim, leaf-sim, link-sim, item-sim, close-sim, here-sim, consume-sim}
-use Rattle.rules.proofs.Steps.{optionally, _otherwise_, loop-sim}
+use Rattle.rules.proofs.Steps.{node-sim, leaf-sim, link-sim, item-sim, close-sim, here-sim, here-at, consume-sim}
+use Rattle.rules.proofs.Steps.{refuse-at, optionally, _otherwise_, loop-sim}
 use Rattle.rules.proofs.Operators.{binary-sim}
 use Rattle.rules.proofs.Items.{closed-sim}
 
 module _ {B B' : Builder} {rel : Relation (B .S) (B' .S)} (M : Model B B' rel) where
-  open Model M using (N, nodeˡ, nodeʳ, L, listˡ, listʳ, Besides, held, opened, At, begin, shared)
+  open Model M using (N, nodeˡ, nodeʳ, L, listˡ, listʳ, Besides, held, opened, At, begin)
 
   deref-sim :
       {x : ℕ} {F : Besides} (start : Token rel) (depth : ℕ) (name : Token rel) (u : N) →
@@ -45,8 +46,8 @@ module _ {B B' : Builder} {rel : Relation (B .S) (B' .S)} (M : Model B B' rel) w
       Sim rel P Q (exceeded B (start .left)) (exceeded B' (start .right))
   unfolding exceeded
   exceeded-sim start =
-      here-sim for each λ end.
-      refuse-sim (shared _ refl) start end
+      here-at for each λ end.
+      refuse-at M span refl start end λ _ _ _. refl
 
   -- what is read is a depth and the name's token
   abbrev Addresses : Known (B .S) (B' .S) → ℕ × ℕ → ℕ × ℕ → Known (B .S) (B' .S)

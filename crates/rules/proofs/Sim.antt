@@ -8,7 +8,8 @@
 --   with itself. They say nothing of columns or trees.
 -- So a new theorem is a relation, with its `Rows` and its `Model`; `type-rule`, `expression-rule`, `constant-rule`,
 -- `struct-rule` and `word-rule` then give what it says of the five rules. A new reading rule gets its agreement in one
--- of these files, a line for each of its steps, and every theorem holds of it too. Beside is the instance of demand 3.
+-- of these files, a line for each of its steps, and every theorem holds of it too. Beside is the instance of demand 3,
+-- and Words that of words beside columns, which also shows the place of each refusal (`Shared`).
 --
 -- `Sim` is the agreement. The laws of this file make the agreement of a rule from that of the rules it is made of.
 use Prim.Native.Nat.{ℕ}
@@ -32,8 +33,8 @@ pub record Relation (S S' : Type 0) : Type 1 where
   pub States : S → S' → Type 0
   -- a refusal of the left reading, by number, cursor and state, that the right one need not share
   pub Excused : ℕ → ℕ → S → Type 0
-  -- what is true of the number of a refusal that both give
-  pub Shared : ℕ → Type 0
+  -- what is true of a refusal that both give, by the left one's number, start, end, cursor and state
+  pub Shared : ℕ → ℕ → ℕ → ℕ → S → Type 0
 
 -- what is known of both states, and of the left cursor, between two steps
 abbrev pub Known : Type 0 → Type 0 → Type 1
@@ -51,7 +52,7 @@ pub record Refused {S S' : Type 0} (rel : Relation S S') {B : Type 0}
   pub start : ℕ
   pub end : ℕ
   pub reply : r ≡ no x start end
-  pub number : rel .Shared x
+  pub shared : rel .Shared x y z c s
   pub starts : rel .Cursors y start
   pub ends : rel .Cursors z end
   pub cursor : rel .Cursors c c'
@@ -85,7 +86,7 @@ module _ {S S' : Type 0} {rel : Relation S S'} {A B C D : Type 0}
       start = e .start;
       end = e .end;
       reply = refl;
-      number = e .number;
+      shared = e .shared;
       starts = e .starts;
       ends = e .ends;
       cursor = e .cursor;
@@ -176,14 +177,15 @@ module _ {S S' : Type 0} {rel : Relation S S'} {A B : Type 0} {P : Known S S'} {
 
   -- both refuse
   pub refuse-sim :
-      {n : ℕ} → rel .Shared n → (x y : Token rel) →
+      {n : ℕ} (x y : Token rel) →
+      ((c : ℕ) (s : S) (s' : S') → P c s s' → rel .Shared n (x .left) (y .left) c s) →
       Sim rel P Q (refuse n (x .left) (y .left)) (refuse n (x .right) (y .right))
-  refuse-sim h x y = record {
+  refuse-sim x y h = record {
     run = λ c c' s s' e k p. inr (record {
       start = x .right;
       end = y .right;
       reply = refl;
-      number = h;
+      shared = h c s s' p;
       starts = x .both;
       ends = y .both;
       cursor = e;
@@ -197,18 +199,26 @@ module _ {S S' : Type 0} {rel : Relation S S'} {A B : Type 0} {P : Known S S'} {
   pick-sim true h g = h
   pick-sim false h g = g
 
--- two tables of rules with the same keys, and a rule for any other key
-pub data Cases {S S' : Type 0} (rel : Relation S S') {A B : Type 0} (P : Known S S') (Q : A → B → Known S S') :
+-- two tables of rules with the same keys, from P, and a rule for any other key, from P'
+pub data Cases {S S' : Type 0} (rel : Relation S S') {A B : Type 0} (P P' : Known S S') (Q : A → B → Known S S') :
     List (ℕ × Rule S A) → Rule S A → List (ℕ × Rule S' B) → Rule S' B → Type 0 where
-  other : {d : Rule S A} {d' : Rule S' B} → Sim rel P Q d d' → Cases rel P Q [] d [] d'
+  other : {d : Rule S A} {d' : Rule S' B} → Sim rel P' Q d d' → Cases rel P P' Q [] d [] d'
   _or_ :
       {k : ℕ} {m d : Rule S A} {es : List (ℕ × Rule S A)} {m' d' : Rule S' B} {es' : List (ℕ × Rule S' B)} →
-      Sim rel P Q m m' → Cases rel P Q es d es' d' → Cases rel P Q ((k, m) ∷ es) d ((k, m') ∷ es') d'
+      Sim rel P Q m m' → Cases rel P P' Q es d es' d' → Cases rel P P' Q ((k, m) ∷ es) d ((k, m') ∷ es') d'
+
+module _ {S S' : Type 0} {rel : Relation S S'} {A B : Type 0} {P P' : Known S S'} {Q : A → B → Known S S'} where
+  -- P' may say more than P
+  pub choose-from :
+      ((c : ℕ) (s : S) (s' : S') → P' c s s' → P c s s') →
+      (k : ℕ) {d : Rule S A} {es : List (ℕ × Rule S A)} {d' : Rule S' B} {es' : List (ℕ × Rule S' B)} →
+      Cases rel P P' Q es d es' d' → Sim rel P' Q (choose k es d) (choose k es' d')
+  unfolding choose
+  choose-from f k (other h) = h
+  choose-from f k (_or_ {k = j} h hs) = pick-sim (eqb k j) (eased f h) (choose-from f k hs)
 
 module _ {S S' : Type 0} {rel : Relation S S'} {A B : Type 0} {P : Known S S'} {Q : A → B → Known S S'} where
   pub choose-sim :
       (k : ℕ) {d : Rule S A} {es : List (ℕ × Rule S A)} {d' : Rule S' B} {es' : List (ℕ × Rule S' B)} →
-      Cases rel P Q es d es' d' → Sim rel P Q (choose k es d) (choose k es' d')
-  unfolding choose
-  choose-sim k (other h) = h
-  choose-sim k (_or_ {k = j} h hs) = pick-sim (eqb k j) h (choose-sim k hs)
+      Cases rel P P Q es d es' d' → Sim rel P Q (choose k es d) (choose k es' d')
+  choose-sim = choose-from (λ c s s' p. p)

@@ -1,54 +1,67 @@
 -- The steps that rules are made of, over any two rows and builders of a model.
 use Prim.Native.Nat.{ℕ, zero, suc, _+_}
 use mathlib.Core.Bool.{Bool, true, false}
-use mathlib.Core.Logic.{inr}
+use mathlib.Core.Logic.{_≢_, inr}
 use mathlib.Core.Path.{_≡_, refl}
 use mathlib.Core.List.{List, [], _∷_, map}
 use lib.ListN.{length}
 use lib.Dec.{eqb}
 use native.Mathlib.Omega.{arith}
-use Rattle.rules.specs.Codes.{pick, entry, refusals, refusalOf, linked}
+use Rattle.rules.specs.Codes.{pick, lookup, refusals, refusalOf, linked}
 use Rattle.rules.specs.Codes.Refusal as Refusal
-use Rattle.rules.specs.Reading.{Rule, Row, ok, no, _>>=_, pure, here, kindOf, peek, take, consume, optional}
-use Rattle.rules.specs.Reading.{Step, loop}
+use Rattle.rules.specs.Reading.{Rule, Row, ok, no, _>>=_, pure, refuse, here, kindOf, peek, take, consume}
+use Rattle.rules.specs.Reading.{optional, Step, loop}
 use Rattle.rules.specs.Builder.{Builder}
+use Rattle.rules.specs.Places.{Place, placeOf, taken, HasPlace}
+use Rattle.rules.specs.Columns.{Nodes}
 use Rattle.rules.proofs.Sim.{Relation, Known, Token, Both, Sim, Alike, Any, Via}
-use Rattle.rules.proofs.Sim.{each, opens, gives, eased, loosened}
+use Rattle.rules.proofs.Sim.{each, opens, gives, eased, loosened, refuse-sim}
 use Rattle.rules.proofs.Rounds.{Stepped, rounds-sim}
-use Rattle.rules.proofs.Model.{Rows, Model, Kind, Loaded, backs, plus}
+use Rattle.rules.proofs.Model.{Rows, Model, Placing, Kind, Loaded, backs, plus}
 
 infixr 20 _otherwise_
--- the numbers of a table, none of which is that of the slots
-abbrev Others : List (ℕ × ℕ) → Type 0
-Others [] = Unit {0}
-Others (e ∷ es) = (eqb (e .1) Refusal.NoSlot ≡ false) × Others es
+-- the numbers of a table, which are all of refusals at a token that was taken
+abbrev AllTaken : List (ℕ × ℕ) → Type 0
+AllTaken [] = Unit {0}
+AllTaken (e ∷ es) = (placeOf (e .1) ≡ taken) × AllTaken es
 
-other-entry :
-    (k : ℕ) (es : List (ℕ × ℕ)) (d : ℕ) → Others es → eqb d Refusal.NoSlot ≡ false →
-    eqb (entry k es d) Refusal.NoSlot ≡ false
-other-entry k [] d h g = g
-other-entry k (e ∷ es) d h g = go (eqb k (e .0)) (other-entry k es d (h .1) g)
+taken-entry :
+    (k : ℕ) (es : List (ℕ × ℕ)) → AllTaken es → lookup k es 0 ≢ Refusal.OutOfRounds → placeOf (lookup k es 0) ≡ taken
+taken-entry k [] h z = absurd (z refl)
+taken-entry k (e ∷ es) h z = go (eqb k (e .0)) (taken-entry k es (h .1)) z
   where
     go :
-        (b : Bool) → eqb (entry k es d) Refusal.NoSlot ≡ false →
-        eqb (pick b (e .1) (entry k es d)) Refusal.NoSlot ≡ false
-    go true r = h .0
-    go false r = r
+        (b : Bool) → (lookup k es 0 ≢ Refusal.OutOfRounds → placeOf (lookup k es 0) ≡ taken) →
+        pick b (e .1) (lookup k es 0) ≢ Refusal.OutOfRounds → placeOf (pick b (e .1) (lookup k es 0)) ≡ taken
+    go true r z = h .0
+    go false r z = r z
 
--- the refusal of an unexpected token is not that of the slots
-not-slots : (k : ℕ) → eqb (refusalOf k) Refusal.NoSlot ≡ false
-not-slots k =
-    other-entry k refusals 0 (refl, (refl, (refl, (refl, (refl, (refl, (refl, (refl, (refl, (refl, tt)))))))))) refl
+-- the refusal of an unexpected token stands at that token, which was taken
+unexpected : (k c : ℕ) → Placing (refusalOf k) c c (c + 1)
+unexpected k c z given o count =
+    rw (taken-entry k refusals (refl, (refl, (refl, (refl, (refl, (refl, (refl, (refl, (refl, (refl, tt)))))))))) z)
+    (refl, refl)
 
 -- what is read is a token's number
 abbrev pub TokenRead : {S S' : Type 0} → Relation S S' → Known S S' → ℕ → ℕ → Known S S'
 TokenRead rel P = Via {I = Token rel} (λ t. t .left) (λ t. t .right) (λ _. P)
+
+-- P is known, and the left cursor
+abbrev pub AtCursor : {S S' : Type 0} → ℕ → Known S S' → Known S S'
+AtCursor n P c s s' = (c ≡ n) × P c s s'
 
 module _ {S S' : Type 0} {rel : Relation S S'} {P : Known S S'} where
   pub here-sim : Sim rel P (TokenRead rel P) here here
   unfolding here
   here-sim = record {
     run = λ c c' s s' e k p. (e, k, (record { left = c; right = c'; both = e }, refl, refl, p));
+  }
+
+  -- the same, where the cursor is to be known after it
+  pub here-at : Sim rel P (Via {I = Token rel} (λ t. t .left) (λ t. t .right) (λ t. AtCursor (t .left) P)) here here
+  unfolding here
+  here-at = record {
+    run = λ c c' s s' e k p. (e, k, (record { left = c; right = c'; both = e }, refl, refl, (refl, p)));
   }
 
   pub peek-sim : {row row' : Row} → Rows rel row row' → Sim rel P (Alike Any P) (peek row) (peek row')
@@ -107,6 +120,15 @@ module _ {B B' : Builder} {rel : Relation (B .S) (B' .S)} (M : Model B B' rel) w
   abbrev pub Costs : Rule (B .S) (B .N) → Rule (B' .S) (B' .N) → Type 0
   Costs m m' = (x : ℕ) (F : M .Besides) → Sim rel (M .At (suc x) [] F) (One x F) m m'
 
+  -- both refuse, from a cursor that is known, at the place of the number
+  pub refuse-at :
+      {A A' : Type 0} {P : Known (B .S) (B' .S)} {Q : A → A' → Known (B .S) (B' .S)} {n cursor : ℕ} (p : Place) →
+      placeOf n ≡ p → (x y : Token rel) →
+      ((given : ℕ) (o : Nodes) (count : ℕ) → HasPlace given o p (x .left) (y .left) cursor count) →
+      Sim rel (AtCursor cursor P) Q (refuse n (x .left) (y .left)) (refuse n (x .right) (y .right))
+  refuse-at p e x y h =
+      refuse-sim x y (λ c s s' k. M .shared _ _ _ c s (λ _ given o count. rw (e, k .0) (h given o count)))
+
   module _ {x : ℕ} {ts : List (M .N)} {F : M .Besides} where
     pub node-sim :
         {k l l' : ℕ} → Kind k (backs 1 ts) → Loaded rel k l l' →
@@ -139,6 +161,18 @@ module _ {B B' : Builder} {rel : Relation (B .S) (B' .S)} (M : Model B B' rel) w
             (R .next c c' e, k, (R .kinds c c' e, tt, M .paid x ts F c (c + 1) s s' (omega arith) p));
       }
 
+      -- the same from a cursor that is known
+      pub take-at :
+          (at : Token rel) →
+          Sim rel (AtCursor (at .left) (M .At x ts F)) (Alike Any (AtCursor (at .left + 1) (M .At (plus 5 x) ts F)))
+          (take row) (take row')
+      unfolding take
+      take-at at = record {
+        run = λ c c' s s' e k p.
+            let q = M .paid x ts F c (c + 1) s s' (omega arith) (p .1) in
+            (R .next c c' e, k, (R .kinds c c' e, tt, (rw (p .0) refl, q)));
+      }
+
       pub consume-sim :
           (kind : ℕ) →
           Sim rel (M .At x ts F) (Alike Any (M .At (plus 5 x) ts F)) (consume row kind) (consume row' kind)
@@ -157,32 +191,41 @@ module _ {B B' : Builder} {rel : Relation (B .S) (B' .S)} (M : Model B B' rel) w
             start = c';
             end = c';
             reply = refl;
-            number = M .shared (refusalOf kind) (not-slots kind);
+            shared = M .shared (refusalOf kind) c c (c + 1) s (unexpected kind c);
             starts = e;
             ends = e;
             cursor = R .next c c' e;
             states = k;
           })
 
-      -- a token that may be missing
-      pub optionally :
-          {A A' : Type 0} {Q : A → A' → Known (B .S) (B' .S)} {f : Bool → Rule (B .S) A} {f' : Bool → Rule (B' .S) A'}
-          (kind : ℕ) → Optional rel (M .At (plus 5 x) ts F) (M .At x ts F) Q f f' →
-          Sim rel (M .At x ts F) Q (optional row kind >>= f) (optional row' kind >>= f')
+      -- a token that may be missing; where it is, all that was known before still is
+      pub optionally-from :
+          {A A' : Type 0} {P : Known (B .S) (B' .S)} {Q : A → A' → Known (B .S) (B' .S)}
+          {f : Bool → Rule (B .S) A} {f' : Bool → Rule (B' .S) A'} →
+          ((c : ℕ) (s : B .S) (s' : B' .S) → P c s s' → M .At x ts F c s s') →
+          (kind : ℕ) → Optional rel (M .At (plus 5 x) ts F) P Q f f' →
+          Sim rel P Q (optional row kind >>= f) (optional row' kind >>= f')
       unfolding _>>=_ optional
-      optionally {Q = Q} {f} {f'} kind h = record {
+      optionally-from {P = P} {Q} {f} {f'} w kind h = record {
         run = λ c c' s s' e k p. rw (R .kinds c c' e) (go (eqb (kindOf row' c') kind) c c' s s' e k p);
       }
         where
           go :
               (b : Bool) (c c' : ℕ) (s : B .S) (s' : B' .S) →
-              rel .Cursors c c' → rel .States s s' → M .At x ts F c s s' →
+              rel .Cursors c c' → rel .States s s' → P c s s' →
               Both rel Q (f b (pick b (c + 1) c) s .result) (f b (pick b (c + 1) c) s .cursor)
               (f b (pick b (c + 1) c) s .state) (f' b (pick b (c' + 1) c') s' .result)
               (f' b (pick b (c' + 1) c') s' .cursor) (f' b (pick b (c' + 1) c') s' .state)
           go true c c' s s' e k p =
-              h .taken .run (c + 1) (c' + 1) s s' (R .next c c' e) k (M .paid x ts F c (c + 1) s s' (omega arith) p)
+              h .taken .run (c + 1) (c' + 1) s s' (R .next c c' e) k
+              (M .paid x ts F c (c + 1) s s' (omega arith) (w c s s' p))
           go false c c' s s' e k p = h .missing .run c c' s s' e k p
+
+      pub optionally :
+          {A A' : Type 0} {Q : A → A' → Known (B .S) (B' .S)} {f : Bool → Rule (B .S) A} {f' : Bool → Rule (B' .S) A'}
+          (kind : ℕ) → Optional rel (M .At (plus 5 x) ts F) (M .At x ts F) Q f f' →
+          Sim rel (M .At x ts F) Q (optional row kind >>= f) (optional row' kind >>= f')
+      optionally = optionally-from (λ c s s' p. p)
 
   module _ {x : ℕ} {F : M .Besides} where
     -- k nodes more are paid for at the end than is said

@@ -10,17 +10,18 @@ use mathlib.Core.Option.{Option, some, none}
 use lib.ListN.{length, length-set, getD, set}
 use lib.Seq.{getD-set-same, getD-set-other}
 use lib.Dec.{ltb, eqb}
-use borrow.Author.Tests.{eqb-true, eqb-false, ltb-true}
+use borrow.Author.Tests.{eqb-true, eqb-false, ltb-true, ltb-false}
 use Rattle.rules.specs.Codes.Refusal as Refusal
 use Rattle.rules.specs.Codes.ParseNode as ParseNode
 use Rattle.rules.specs.Reading.{Rule, Result, Row, ok, no, kindOf, _>>=_, pure}
 use Rattle.rules.specs.Lists.{Ends, extended, ended, pushListItem, pushEndOfList}
 use Rattle.rules.specs.Columns.{Nodes, columns}
 use Rattle.rules.specs.Columns as C
+use Rattle.rules.specs.Places.{Placed}
 use Rattle.rules.specs.Words.{Words, wordAt, packed, written, append, patch}
 use Rattle.rules.specs.Words.{words, Exact, Alongside, Packed, Agrees}
 use Rattle.rules.specs.Ways.{kindAt, loadAt}
-use Rattle.rules.specs.Demand.{Sized}
+use Rattle.rules.specs.Demand.{Paired}
 use Rattle.rules.proofs.Lists.{getD-past}
 use Rattle.rules.proofs.Sim.{Relation, Known, Token, Sim, Both, Via, _for_, each, gives, eased, loosened}
 use Rattle.rules.proofs.Model.{Rows, Model, one-row, equal, fits-byte, plus}
@@ -122,7 +123,9 @@ module _ (base : ℕ) (v : Words) where
     Cursors = λ c c'. c ≡ c';
     States = λ w s. Packed base v s w;
     Excused = λ x _ _. x ≡ Refusal.OutOfRounds;
-    Shared = λ _. Unit {0};
+    Shared = λ n x y c w.
+        n ≢ Refusal.OutOfRounds → (given : ℕ) (o : Nodes) → length (o .kinds) ≡ length (w .words) →
+        Placed given o n x y c (w .count);
   }
 
   -- the nodes that stand last, and the open lists
@@ -166,11 +169,12 @@ module _ (base : ℕ) (v : Words) where
           )
       go c w s h f false e =
           let e' : ltb (w .count) (length (w .words)) ≡ false = rw (h .along .count, h .along .size) e in
+          let full = ltb-false (s .count) (length (s .kinds)) e in
           rw (e, e') (inr (record {
             start = c;
             end = c;
             reply = refl;
-            number = tt;
+            shared = λ _ _ o d. (refl, refl, omega (arith, h .fits, h .along .count, h .along .size));
             starts = refl;
             ends = refl;
             cursor = refl;
@@ -235,7 +239,7 @@ module _ (base : ℕ) (v : Words) where
     paid = λ _ _ _ _ _ _ _ _ f. f;
     less = λ _ _ _ _ _ _ f. f;
     aside = λ _ _ _ _ _ _ f. (tt, (f .0 .0, f .1));
-    shared = λ _ _. tt;
+    shared = λ _ _ _ _ w h z given o _. h z given o (w .count);
     node = λ _ ts F k l l' e d. node-sim k l l' ts F (fits-byte k e) (equal Packing k l l' (λ x. x) d);
     leaf = λ _ ts F k l l' e d. leaf-sim k l l' ts F (fits-byte k e) (equal Packing k l l' (λ x. x) d);
     link = λ _ ts F k u e. eased (λ c w s f. (f .0, f .1 .1)) (leaf-sim k u u ts F (fits-byte k e) refl);
@@ -251,6 +255,10 @@ once base v row = one-row _ _ _ row (λ c s s' k. refl)
 
 abbrev pub at : {base : ℕ} {v : Words} → ℕ → Token (Packing base v)
 at n = record { left = n; right = n; both = refl }
+
+-- a rule with columns and with words: what they append is the same
+abbrev pub Packs : Rule Nodes ℕ → Rule Words ℕ → Type 0
+Packs m q = (base : ℕ) (v : Words) → Follows (packing base v) q m
 
 -- What is known of a rule with words by itself: that it moves the cursor, and refuses at EndOfSource.
 pub record Reader (row : Row) (q : Rule Words ℕ) : Type 0 where
@@ -272,10 +280,10 @@ module _ {row : Row} {q : Rule Words ℕ} (r : Reader row q) where
     | Dec.no d ↦ eqb-false n 0 (rw e at (r .starts c (getD-past (row .kinds) c 0 (omega arith)) .run w))
   ]
 
-  pub agrees : {m : Rule Nodes ℕ} → ((base : ℕ) (v : Words) → Follows (packing base v) q m) → Agrees m q
+  pub agrees : {m : Rule Nodes ℕ} → Packs m q → Agrees m q
   unfolding packing
-  agrees {m} follows s w c z k =
-      go (q c w .result) refl (m c s .result) refl (follows (s .count) w 0 [] .run c c w s refl begun (tt, tt))
+  agrees {m} packs s w c z k =
+      go (q c w .result) refl (m c s .result) refl (packs (s .count) w 0 [] .run c c w s refl begun (tt, tt))
     where
       begun : Packed (s .count) w s w
       begun = record {
@@ -348,3 +356,17 @@ unfolding packing
 rooted-aside k follows w c n z e =
     rooted-in w c n z e (λ n. Stand (w .count) w [] (node n ∷ [])) (λ i c v s f. f .1 .0)
     (follows (w .count) w 0 [])
+
+-- A refusal of a rule with words has a number of the list and its place, whatever was given in as many slots.
+pub placed :
+    {row : Row} {q : Rule Words ℕ} {m : Rule Nodes ℕ} → Reader row q → Packs m q →
+    (w : Words) (c n x y : ℕ) → w .count ≤ length (w .words) → q c w .result ≡ no n x y →
+    (given : ℕ) (o : Nodes) → length (o .kinds) ≡ length (q c w .state .words) →
+    Placed given o n x y (q c w .cursor) (q c w .state .count)
+unfolding packing
+placed reader packs w c n x y z e given o d =
+    let h = unended reader w c n x y z e in
+    elim (rw e at (packs (w .count) w 0 [] .run c c w (columns-of w) refl (begun w z) (tt, tt))) [
+      | inl a ↦ absurd (h a)
+      | inr a ↦ a .shared h given o d
+    ]

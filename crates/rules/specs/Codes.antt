@@ -23,9 +23,9 @@ abbrev pub _⇒_ : {A : Type 0} → ℕ → A → ℕ × A
 _⇒_ k a = (k, a)
 
 -- the entry of a table for a key, or the last argument where it has none
-abbrev pub entry : {A : Type 0} → ℕ → List (ℕ × A) → A → A
-entry k [] d = d
-entry k (e ∷ es) d = pick (eqb k (e .0)) (e .1) (entry k es d)
+abbrev pub lookup : {A : Type 0} → ℕ → List (ℕ × A) → A → A
+lookup k [] d = d
+lookup k (e ∷ es) d = pick (eqb k (e .0)) (e .1) (lookup k es d)
 
 -- The refusals' numbers by the kind that was expected.
 abbrev pub refusals : List (ℕ × ℕ)
@@ -44,7 +44,7 @@ refusals =
 
 -- the refusal's number for such a kind, 0 where there is none
 abbrev pub refusalOf : ℕ → ℕ
-refusalOf k = entry k refusals 0
+refusalOf k = lookup k refusals 0
 
 -- A part of a node (document 01's term): the node so many places back, or the one that its load names (MANUAL.md,
 -- Parts).
@@ -54,7 +54,7 @@ pub data Part : Type 0 where
 
 -- The parts by the node's kind, in their order.
 abbrev pub partsOf : ℕ → List Part
-partsOf k = entry k
+partsOf k = lookup k
     (ParseNode.ConstantDeclaration ⇒ (back 1 ∷ back 2 ∷ back 3 ∷ back 4 ∷ [])
     ∷ ParseNode.StructureDeclaration ⇒ (back 1 ∷ back 2 ∷ back 3 ∷ back 4 ∷ [])
     ∷ ParseNode.Item ⇒ (linked ∷ [])
@@ -89,7 +89,7 @@ partsOf k = entry k
 
 -- Whether a node's load is a token number, by its kind. Any other load is a link (see partsOf), a count, a code or 0.
 abbrev pub holdsToken : ℕ → Bool
-holdsToken k = entry k
+holdsToken k = lookup k
     (ParseNode.ConstantDeclaration ⇒ true
     ∷ ParseNode.StructureDeclaration ⇒ true
     ∷ ParseNode.Identifier ⇒ true

@@ -7,6 +7,8 @@ pub mod Declarations
 pub mod Trees
 pub mod Lists
 pub mod Columns
+pub mod Frame
+pub mod Places
 pub mod Ways
 pub mod Demand
 pub mod Words

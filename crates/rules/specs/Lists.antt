@@ -37,7 +37,8 @@ module _ {S : Type 0} (append : ℕ → ℕ → Rule S ℕ) (patch : ℕ → ℕ
     p ← append ParseNode.NoMoreItems 0
     ended l p
 
-  -- the builder that appends and patches by these
+  -- The builder that appends and patches by these. A node and an item ignore their parts, which were appended before
+  -- them; that they stand where the table of parts says is shown by Whole (Ways), of each accepted parse.
   abbrev pub builder : Builder
   builder = record {
     S = S;

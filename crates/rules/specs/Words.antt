@@ -15,7 +15,7 @@ use Rattle.rules.specs.Lists.{Ends}
 use Rattle.rules.specs.Lists as Lists
 use Rattle.rules.specs.Columns.{Nodes}
 use Rattle.rules.specs.Ways.{kindAt, loadAt}
-use Rattle.rules.specs.Demand.{Sized}
+use Rattle.rules.specs.Demand.{Paired}
 
 -- one column, whose length is the slots, of which count are used
 pub record Words : Type 0 where
@@ -86,6 +86,6 @@ pub record Packed (base : ℕ) (v : Words) (s : Nodes) (w : Words) : Type 0 wher
 -- and so are the nodes appended since, refusals too.
 abbrev pub Agrees : Rule Nodes ℕ → Rule Words ℕ → Type 0
 Agrees m q =
-    (s : Nodes) (w : Words) (c : ℕ) → Sized s → Alongside s w →
+    (s : Nodes) (w : Words) (c : ℕ) → Paired s → Alongside s w →
     (q c w .result ≡ m c s .result) × (q c w .cursor ≡ m c s .cursor) ×
     Packed (s .count) w (m c s .state) (q c w .state)

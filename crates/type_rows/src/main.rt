@@ -3,7 +3,7 @@
 ghost use Prim.Native.Nat.{_≤_};
 ghost use mathlib.Core.Path.{_≡_};
 ghost use lib.ListN.{length};
-ghost use Rattle.rules.specs.Codes.Limit as Most;
+ghost use Rattle.rules.specs.Codes.Limit as Limits;
 use codes::BaseToken;
 use codes::Limit;
 use codes::TokenId;
@@ -14,7 +14,7 @@ const UNUSED: u32 = 255;
 
 // There are 8 slots, of which so many are lent.
 fn show(text: &[u8], kinds: &[u8], types: &[u8], slots: usize)
-    requires { ⌜ (length (now types) ≡ length (now kinds)) × (length (now kinds) ≤ Most.Tokens) × (slots ≤ 8) ⌝ }
+    requires { ⌜ (length (now types) ≡ length (now kinds)) × (length (now kinds) ≤ Limits.Tokens) × (slots ≤ 8) ⌝ }
 {
     let mut all_words = [UNUSED; 8];
     let node_words = &mut all_words[..slots];

@@ -10,7 +10,7 @@ use Rattle.tokens.specs.Answer.{kindIn}
 use Rattle.types.specs.declared.Short.{Short}
 use Rattle.types.specs.declared.Start.{Start}
 use Rattle.types.specs.declared.Start.the-variants.{Leaf, Around, NoType}
-use Rattle.rules.specs.Codes.{pick, entry, _⇒_}
+use Rattle.rules.specs.Codes.{pick, lookup, _⇒_}
 use Rattle.rules.specs.Codes.BaseToken as BaseToken
 use Rattle.rules.specs.Codes.Limit as Limit
 use Rattle.rules.specs.Codes.ParseNode as ParseNode
@@ -58,11 +58,12 @@ Starts kinds types c count (NoType r) =
     (element : Rule Words ℕ) (ks : List ℕ) →
     Gives (innerFrom words (row kinds types) element) c (nodes ks count) r ks
 
--- Whether an inner type is of a single token, by its kind; and if so, it starts with this node.
+-- Whether an inner type is of a single token, by its kind; and if so, it starts with this node. Where it is of several
+-- tokens, the kind and the load of the answer are free.
 pub record Shorts (kinds types : List ℕ) (c : ℕ) (r : Short) : Type 0 where
   pub is :
       r .found ≡
-      entry (kindIn kinds c) (BaseToken.ValueTypeKeyword ⇒ true ∷ BaseToken.Identifier ⇒ true ∷ []) false
+      lookup (kindIn kinds c) (BaseToken.ValueTypeKeyword ⇒ true ∷ BaseToken.Identifier ⇒ true ∷ []) false
   pub starts :
       r .found ≡ true → (count : ℕ) → Starts kinds types c count (Leaf (r .kind) (r .load) (token (c + 1)) count)
 

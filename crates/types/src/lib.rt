@@ -1,12 +1,12 @@
 // Types, after parse_type and parse_inner_type of the Rust's parser.rs.
 ghost use Prim.Native.Nat.{_+_, _≤_};
 ghost use lib.ListN.{length};
-ghost use Rattle.rules.specs.Codes.Limit as Most;
+ghost use Rattle.rules.specs.Codes.Limit as Limits;
 ghost use Rattle.rules.specs.Types.{innerType, type, arraySize};
 ghost use Rattle.rules.specs.Words.{words};
 ghost use Rattle.codes.specs.Answer.{row};
 ghost use Rattle.codes.specs.Words.{Gives, Quiet, Sized, nodes};
-ghost use Rattle.nodes.specs.Answer.{Slots};
+ghost use Rattle.nodes.specs.Answer.{WithinSlots};
 ghost use Rattle.types.specs.Answer.{sized, closing, Starts, Shorts, finishing, enclosing, spanning};
 use codes::BaseToken;
 use codes::ParseNode;
@@ -35,7 +35,7 @@ pub struct Short {
 
 // The bracket that closes a size.
 fn close_array(kinds: &[u8], cursor: TokenId, count: u32, kind: u8, load: u32) -> Start
-    requires { ⌜ cursor .0 ≤ Most.Tokens + 1 ⌝ }
+    requires { ⌜ cursor .0 ≤ Limits.Tokens + 1 ⌝ }
     ensures { λ r. ⌜ Quiet sized (closing kind load) (now (kinds .entry)) (cursor .0) count r ⌝ }
 {
     match consume(kinds, cursor, count, BaseToken::BracketRight) {
@@ -49,7 +49,7 @@ fn close_array(kinds: &[u8], cursor: TokenId, count: u32, kind: u8, load: u32) -
 
 // An array's size, with its closing bracket.
 fn parse_array_size(kinds: &[u8], cursor: TokenId, count: u32) -> Start
-    requires { ⌜ cursor .0 ≤ Most.Tokens ⌝ }
+    requires { ⌜ cursor .0 ≤ Limits.Tokens ⌝ }
     ensures { λ r. ⌜ Quiet sized (arraySize words) (now (kinds .entry)) (cursor .0) count r ⌝ }
 {
     let at = cursor.0;
@@ -78,7 +78,7 @@ fn parse_array_size(kinds: &[u8], cursor: TokenId, count: u32) -> Start
 
 // An inner type up to its element type.
 fn start_inner_type(kinds: &[u8], types: &[u8], cursor: TokenId, count: u32) -> Start
-    requires { ⌜ (cursor .0 ≤ length (now kinds)) × (length (now kinds) ≤ Most.Tokens) ⌝ }
+    requires { ⌜ (cursor .0 ≤ length (now kinds)) × (length (now kinds) ≤ Limits.Tokens) ⌝ }
     ensures { λ r. ⌜ Starts (now (kinds .entry)) (now (types .entry)) (cursor .0) count r ⌝ }
 {
     let at = cursor.0;
@@ -113,7 +113,7 @@ fn finish_inner_type(
     kind: u8,
     load: u32,
 ) -> Parsed
-    requires { ⌜ Slots (now «node_words») count × (cursor .0 ≤ Most.Tokens + 1) × (load ≤ Most.Load) ⌝ }
+    requires { ⌜ WithinSlots (now «node_words») count × (cursor .0 ≤ Limits.Tokens + 1) × (load ≤ Limits.Load) ⌝ }
     ensures { λ r. ⌜ Gives (finishing (now (kinds .entry)) kind load) (cursor .0) (nodes (now («node_words» .entry)) count) r (now («node_words» .exit)) ⌝ }
 {
     if kind == ParseNode::ViewVT {
@@ -162,7 +162,7 @@ fn enclose(
     kind: u8,
     load: u32,
 ) -> Parsed
-    requires { ⌜ Slots (now «node_words») count × (cursor .0 ≤ Most.Tokens) × (element .load ≤ Most.Load) × (load ≤ Most.Load) ⌝ }
+    requires { ⌜ WithinSlots (now «node_words») count × (cursor .0 ≤ Limits.Tokens) × (element .load ≤ Limits.Load) × (load ≤ Limits.Load) ⌝ }
     ensures { λ r. ⌜ Gives (enclosing (now (kinds .entry)) (element .kind) (element .load) kind load) (cursor .0 + 1) (nodes (now («node_words» .entry)) count) r (now («node_words» .exit)) ⌝ }
 {
     let end = TokenId(cursor.0 + 1);
@@ -227,7 +227,7 @@ fn parse_inner_type(
 
 // The span of a type that begins at the token `start` and ends before the cursor.
 fn push_span(node_words: &mut [u32], cursor: TokenId, count: u32, start: u32) -> Parsed
-    requires { ⌜ Slots (now «node_words») count × (cursor .0 ≤ Most.Load) × (start ≤ Most.Load) ⌝ }
+    requires { ⌜ WithinSlots (now «node_words») count × (cursor .0 ≤ Limits.Load) × (start ≤ Limits.Load) ⌝ }
     ensures { λ r. ⌜ Gives (spanning start (cursor .0)) (cursor .0) (nodes (now («node_words» .entry)) count) r (now («node_words» .exit)) ⌝ }
 {
     let span = push(node_words, cursor, count, ParseNode::EndOfSpan, cursor.0);

@@ -1,5 +1,5 @@
 -- `penne::parse_constant_declaration` meets its contract: a law for each return, found among the facts of its path.
-use Rattle.penne.proofs.Checks.{declaration-sized, declaration-start, declaration-flags}
+use Rattle.checks.proofs.Laws.{declaration-listed, declaration-sized, declaration-start, declaration-flags}
 use Rattle.penne.proofs.Promises.{check-refused}
 use Rattle.penne.proofs.Entries.{constant-splits, constant-followed}
 use borrow.Author.Needs.{needs}
@@ -24,7 +24,7 @@ returns c =
     (c₃ .parse-constant-declaration .ensures) (c₁ .split .ensures)
 
 returns-2 : tie.Need-returns-2
-returns-2 c = search (needs, check-refused)
+returns-2 c = search (needs, check-refused, declaration-listed)
 
 pub parse-constant-declaration-spec : {M : Type 1} → statement M
 parse-constant-declaration-spec =

@@ -1,5 +1,5 @@
 -- `penne::parse_constant_declaration_words` meets its contract: a law for each return, found among the facts of its path.
-use Rattle.penne.proofs.Checks.{declaration-sized, declaration-start, declaration-flags}
+use Rattle.checks.proofs.Laws.{declaration-sized, declaration-start, declaration-flags}
 use Rattle.penne.proofs.Entries.{constant-words-followed, constant-words-refused}
 use borrow.Author.Needs.{needs}
 use Rattle.penne.proofs.parse_constant_declaration_words.Statement.{statement}

@@ -1,5 +1,5 @@
 -- `penne::parse_expression` meets its contract: a law for each return, found among the facts of its path.
-use Rattle.penne.proofs.Checks.{input-sized}
+use Rattle.checks.proofs.Laws.{input-listed, input-sized}
 use Rattle.penne.proofs.Promises.{check-refused}
 use Rattle.penne.proofs.Entries.{expression-splits, expression-followed}
 use borrow.Author.Needs.{needs}
@@ -23,7 +23,7 @@ returns c =
     (c₃ .parse-expression .ensures) (c₁ .split .ensures)
 
 returns-2 : tie.Need-returns-2
-returns-2 c = search (needs, check-refused)
+returns-2 c = search (needs, check-refused, input-listed)
 
 pub parse-expression-spec : {M : Type 1} → statement M
 parse-expression-spec =

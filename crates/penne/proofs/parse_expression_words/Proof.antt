@@ -1,5 +1,5 @@
 -- `penne::parse_expression_words` meets its contract: a law for each return, found among the facts of its path.
-use Rattle.penne.proofs.Checks.{input-sized}
+use Rattle.checks.proofs.Laws.{input-sized}
 use Rattle.penne.proofs.Entries.{expression-words-followed, expression-words-refused}
 use borrow.Author.Needs.{needs}
 use Rattle.penne.proofs.parse_expression_words.Statement.{statement}

@@ -1,5 +1,5 @@
 -- `penne::parse_word_declaration` meets its contract: a law for each return, found among the facts of its path.
-use Rattle.penne.proofs.Checks.{word-sized, word-start, word-flags}
+use Rattle.checks.proofs.Laws.{word-listed, word-sized, word-start, word-flags}
 use Rattle.penne.proofs.Promises.{check-refused}
 use Rattle.penne.proofs.Entries.{word-splits, word-followed}
 use borrow.Author.Needs.{needs}
@@ -24,7 +24,7 @@ returns c =
     (c₃ .parse-word-declaration .ensures) (c₁ .split .ensures)
 
 returns-2 : tie.Need-returns-2
-returns-2 c = search (needs, check-refused)
+returns-2 c = search (needs, check-refused, word-listed)
 
 pub parse-word-declaration-spec : {M : Type 1} → statement M
 parse-word-declaration-spec =

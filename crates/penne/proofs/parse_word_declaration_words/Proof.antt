@@ -1,5 +1,5 @@
 -- `penne::parse_word_declaration_words` meets its contract: a law for each return, found among the facts of its path.
-use Rattle.penne.proofs.Checks.{word-sized, word-start, word-flags}
+use Rattle.checks.proofs.Laws.{word-sized, word-start, word-flags}
 use Rattle.penne.proofs.Entries.{word-words-followed, word-words-refused}
 use borrow.Author.Needs.{needs}
 use Rattle.penne.proofs.parse_word_declaration_words.Statement.{statement}

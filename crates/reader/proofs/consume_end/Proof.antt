@@ -29,7 +29,7 @@ use Rattle.walks.proofs.Extra.{Extra, Values, Knowns, one, two}
 use Rattle.walks.proofs.Operands.{itself, local, gone}
 use Rattle.walks.proofs.Plain.{number, truth}
 use Rattle.walks.proofs.Told.{told}
-use Rattle.rules.specs.Codes.Limit as Most
+use Rattle.rules.specs.Codes.Limit as Limits
 use Rattle.rules.specs.Codes.BaseToken as BaseToken
 use Rattle.codes.specs.declared.TokenId.{TokenId}
 use Rattle.codes.proofs.TokenId.Laws as I′
@@ -61,20 +61,20 @@ X = two (number w32) (number w8)
 
 abbrev P : Promise X
 P = record {
-  asking = upto Most.Tokens;
+  asking = upto Limits.Tokens;
   answer = consumed .row;
   Says = λ ks c x r. Quiet answer (ending (x .1)) ks (c .0) (x .0) r;
 }
 
 module _ {M : Type 1} (𝓤 : URA M) (H : Heap 𝓤) (A : Atoms 𝓤) (W : Given 𝓤 H A) (mem : Memory → SProp 𝓤)
     (run : Routine → Fun 𝓤) (κ : Lft) (q : Share) (h₀ : Tokens) (a : Denots (E.rows 1 (κ, tt) X))
-    (a-is : Knowns X (E.out 1 (κ, tt) X a)) (below : place h₀ ≤ Most.Tokens) where
+    (a-is : Knowns X (E.out 1 (κ, tt) X a)) (below : place h₀ ≤ Limits.Tokens) where
   abbrev x₀ : Values X
   x₀ = E.out 1 (κ, tt) X a
 
   -- of the reader that is made
-  starts : (h : Tokens) → Made h₀ h → place h ≤ Most.Tokens
-  starts h e = subst (λ (c : TokenId). c .0 ≤ Most.Tokens) (sym (e .2)) below
+  starts : (h : Tokens) → Made h₀ h → place h ≤ Limits.Tokens
+  starts h e = subst (λ (c : TokenId). c .0 ≤ Limits.Tokens) (sym (e .2)) below
 
   answered :
       {h h′ h″ : Tokens} {b : Bool} {r : Consumed} → Made h₀ h → Tries h BaseToken.Comma b h′ →

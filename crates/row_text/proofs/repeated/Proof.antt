@@ -3,13 +3,13 @@ use native.Mathlib.Nat.{mul-le-mul}
 use native.Mathlib.Omega.{arith}
 use Prim.Native.Nat.{ℕ, _*_, _-_, _≤_}
 use borrow.Author.Needs.{needs}
-use Rattle.row_text.specs.Most as Most
+use Rattle.row_text.specs.LineLimits as LineLimits
 use Rattle.row_text.proofs.repeated.Statement.{statement}
 use Rattle.row_text.proofs.repeated.Tie as tie
 
-below : (first past times : ℕ) → past ≤ Most.Room → times ≤ Most.Times →
-    (past - first) * times ≤ Most.Room * Most.Times
-below first past times tokens most = mul-le-mul {n₂ = Most.Room} {m₂ = Most.Times} (omega arith) most
+below : (first past times : ℕ) → past ≤ LineLimits.Room → times ≤ LineLimits.Times →
+    (past - first) * times ≤ LineLimits.Room * LineLimits.Times
+below first past times tokens most = mul-le-mul {n₂ = LineLimits.Room} {m₂ = LineLimits.Times} (omega arith) most
 
 mul-result : tie.Need-mul-result
 mul-result c = omega (arith, below (c .args .first) (c .args .past) (c .args .times) (search needs) (search needs))

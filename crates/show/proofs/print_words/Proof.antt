@@ -1,6 +1,7 @@
 -- `show::print_words` meets its contract: the loop stays within the words.
 use Prim.Native.Nat.{_≤_, _-_}
 use borrow.Author.Needs.{needs}
+use Rattle.show.proofs.Laws.{words-printed}
 use Rattle.show.proofs.print_words.Statement.{statement}
 use Rattle.show.proofs.print_words.Tie as tie
 
@@ -9,6 +10,9 @@ Inv-loop node-words count end n₀ t6 t7 n = n ≤ end
 
 abbrev μ-loop : tie.MeasureT-loop
 μ-loop node-words count end n₀ t6 t7 n = end - n
+
+returns : tie.Need-returns Inv-loop μ-loop
+returns c = search (needs, words-printed)
 
 pub print-words-spec : {M : Type 1} → statement M
 print-words-spec =
@@ -23,7 +27,7 @@ print-words-spec =
     (λ c. search needs)
     (λ c κs. search needs)
     (λ c κs. search needs)
-    (λ c κs. search needs)
+    (λ c. search needs)
     (λ c κs. search needs)
     (λ c κs. search needs)
     (λ c κs. search needs)
@@ -32,4 +36,4 @@ print-words-spec =
     (λ c. search needs)
     (λ c. search needs)
     (λ c κs. search needs)
-    (λ c. search needs))
+    returns)

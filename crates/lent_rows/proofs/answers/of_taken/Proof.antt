@@ -4,11 +4,8 @@ use borrow.Author.Needs.{needs}
 use Rattle.lent_rows.proofs.answers.of_taken.Statement.{statement}
 use Rattle.lent_rows.proofs.answers.of_taken.Tie as tie
 
-wide-requires : tie.Need-wide-requires
-wide-requires c κs = search needs
-
 returns : tie.Need-returns
 returns c = search (needs, taken)
 
 pub of-taken-spec : {M : Type 1} → statement M
-of-taken-spec = tie.close (tie.spec wide-requires returns)
+of-taken-spec = tie.close (tie.spec (λ c. search needs) returns)

@@ -19,8 +19,8 @@ same-length c = search needs
 returns : tie.Need-returns
 returns c = (search (needs, record-refused), search (needs, no-record))
 
-patch-in-requires : tie.Need-patch-in-requires
-patch-in-requires c κs = (search (needs, record-slots), search (needs, record-last))
+append-item-to-requires : tie.Need-append-item-to-requires
+append-item-to-requires c κs = (search (needs, record-slots), search (needs, record-last))
 
 same-length-2 : tie.Need-same-length-2
 same-length-2 c = search needs
@@ -37,6 +37,6 @@ item-by-record-spec =
     enum-told
     same-length
     returns
-    patch-in-requires
+    append-item-to-requires
     same-length-2
     returns-2)

@@ -1,6 +1,6 @@
 -- `penne_nodes::answer::answer` meets its contract: by whether the file is bad.
-use Rattle.penne_nodes.proofs.Laws.{is-bad, is-good, bad-shown, parse-shown}
-use Rattle.penne_nodes.proofs.Texts.{puts-fit, less-room}
+use Rattle.penne_nodes.proofs.Laws.{is-bad, is-good, bad-answered, parse-answered}
+use Rattle.node_text.proofs.Texts.{puts-fit, less-room}
 use borrow.Author.Needs.{needs}
 use Rattle.penne_nodes.proofs.answer.answer.Statement.{statement}
 use Rattle.penne_nodes.proofs.answer.answer.Tie as tie
@@ -11,8 +11,8 @@ put-bad-file-requires c κs = search (needs, less-room)
 returns : tie.Need-returns
 returns c =
     let c₂ = c .before .before in
-    let c₅ = c₂ .before .before .before in (
-      bad-shown _ _ (is-bad _ (c₅ .is-bad .ensures) (c₂ .before .before .if1 .taken)) (c₂ .put-bad-file .ensures),
+    let bad = is-bad _ (c₂ .before .before .before .is-bad .ensures) (c₂ .before .before .if1 .taken) in (
+      bad-answered _ _ bad (c₂ .put-bad-file .ensures),
       puts-fit (c₂ .put-bad-file .ensures),
     )
 
@@ -28,9 +28,9 @@ returns-2 : tie.Need-returns-2
 returns-2 c =
     let c₂ = c .before .before in
     let c₁₀ = c₂ .before .before .before .before .before .before .before .before in
-    let c₁₃ = c₁₀ .before .before .before in (
-      parse-shown _ _ (is-good _ (c₁₃ .before .is-bad .ensures) (c₁₃ .if1 .left)) _ _ _ (c₁₀ .parse .ensures .gives)
-          (c₂ .put-parse .ensures),
+    let c₁₃ = c₁₀ .before .before .before in
+    let good = is-good _ (c₁₃ .before .is-bad .ensures) (c₁₃ .if1 .left) in (
+      parse-answered _ _ good _ (c₁₀ .parse .ensures .gives) (c₂ .put-parse .ensures),
       puts-fit (c₂ .put-parse .ensures),
     )
 

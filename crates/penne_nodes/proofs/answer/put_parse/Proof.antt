@@ -1,5 +1,6 @@
 -- `penne_nodes::answer::put_parse` meets its contract: the lines after the reply.
-use Rattle.penne_nodes.proofs.Texts.{parse-put, less-room, kinds-fit, loads-fit, nodes-room}
+use Rattle.penne_nodes.proofs.Laws.{parse-put, kinds-fit, loads-fit, nodes-room}
+use Rattle.node_text.proofs.Texts.{less-room}
 use borrow.Author.Needs.{needs}
 use Rattle.penne_nodes.proofs.answer.put_parse.Statement.{statement}
 use Rattle.penne_nodes.proofs.answer.put_parse.Tie as tie
