@@ -28,6 +28,7 @@ fn or_else(first: Checked, second: Checked) -> Checked
     }
 }
 
+// The larger of two numbers, of which no more is needed than that neither is above it.
 fn larger(a: u8, b: u8) -> u8
     ensures { λ r. ⌜ (a ≤ r) × (b ≤ r) ⌝ }
 {
@@ -40,7 +41,8 @@ struct Maxima {
     value_type: u8,
 }
 
-// The largest of both columns of a row. The loop is compiled to vector instructions, since it has no way out but its end.
+// The largest of both columns of a row, of which no more is needed than that nothing in its column is above it: where it
+// is too large, each token is looked at. The loop is compiled to vector instructions, since it has no way out but its end.
 fn largest(kinds: &[u8], types: &[u8]) -> Maxima
     requires { ⌜ length (now types) ≡ length (now kinds) ⌝ }
     ensures { λ r. ⌜ Bounded (now (kinds .entry)) (length (now (kinds .entry))) (r .kind) × Bounded (now (types .entry)) (length (now (kinds .entry))) (r .«value_type») ⌝ }
