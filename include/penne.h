@@ -16,7 +16,7 @@
  * number is the load. penne_part gives them; rust/examples/c/tree.c is a program that walks and prints a tree.
  *
  * The library allocates nothing, keeps nothing between calls and needs no other library, not even that of C. It reads
- * and writes only what it is lent, and uses less than 70 KiB of stack. Calls in several threads are fine as long as
+ * and writes only what it is lent, and uses less than 16 KiB of stack. Calls in several threads are fine as long as
  * they do not write to the same memory.
  */
 #ifndef PENNE_H

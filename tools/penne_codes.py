@@ -227,7 +227,7 @@ REFUSALS = {
     31: ("BadColumns", "The node columns differ in length, or have more than 131,075 slots."),
     32: ("BadCount", "The node count is above the number of slots."),
     33: ("NoSlot", "No slot is left for a node, with the cursor at token {start}."),
-    34: ("NestingExceeded", "An expression or inner type begins at token {start}, and 200 are already open."),
+    34: ("NestingExceeded", "An expression or inner type begins at token {start}, and 40 are already open."),
     35: ("BadFlags", "The declaration flags are above 31."),
     36: ("BadWordKind", "The kind given for a word declaration is not one of word8 to word128."),
     56: ("LoadTooLarge", "The load does not fit the 24 bits that a word has for it."),

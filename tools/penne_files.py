@@ -117,7 +117,7 @@ class Maker:
     def long_row(self):
         """Rows that nest, that take many slots, or that have many steps or ampersands, up to the most tokens."""
         pieces = [b"(", b"[", b"&", b"-", b"a+", b"1+", b"f(", b"a[", b"a.", b"|a", b"S{a:", b'"s"', b"cast ", b"a as "]
-        line = self.random.choice(pieces) * self.random.choice([100, 127, 128, 199, 200, 201, 1000, 2047])
+        line = self.random.choice(pieces) * self.random.choice([39, 40, 41, 100, 127, 128, 1000, 2047])
         row = penne_row.tokens(line + self.random.choice([b"1", b"a", b"i32", b""]))
         kinds = bytes(token.kind for token in row)[-codes.PROGRAM_TOKENS :]
         return self.file(kinds)

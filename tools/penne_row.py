@@ -3,7 +3,7 @@
 Besides Penne's own spelling a token can be written by the name of its kind: `Identifier`, `Plus`. The two kinds with a
 value type can have it after a colon, without spaces: `SuffixedInteger:i32`, `ValueTypeKeyword:bool`. An identifier
 that is called as a kind is has a backslash before it: `\\Plus`. `#62` is a token of the kind 62, and `#52:15` has the
-value type 15 too, whether or not there are such. `200×(` is 200 times `(`.
+value type 15 too, whether or not there are such. `40×(` is 40 times `(`.
 """
 
 import collections

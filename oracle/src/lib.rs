@@ -126,7 +126,7 @@ impl Row {
 pub const MOST_TOKENS: usize = 65_535;
 pub const MOST_SLOTS: u32 = 131_075;
 pub const MOST_FLAGS: u32 = 31;
-pub const MOST_OPEN: u32 = 200;
+pub const MOST_OPEN: u32 = 40;
 
 /// An entry with all that it is given besides the row.
 #[derive(Debug, Clone, Copy, PartialEq, Eq)]

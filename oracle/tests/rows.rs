@@ -166,11 +166,11 @@ fn most_ampersands() {
     assert_eq!(nodes[3], (34, 0));
 }
 
-/// Document 01 stops at 200 open expressions (34); the Rust goes on.
+/// More than 40 open expressions are refused (34); the Rust goes on.
 #[test]
 fn parentheses() {
     oracle::with_large_stack(|| {
-        for n in [199, 200, 1_000] {
+        for n in [39, 40, 200, 1_000] {
             let source = format!("{}1{}", "(".repeat(n as usize), ")".repeat(n as usize));
             let mut buffer = Buffer::wide();
             let reply = row(&source).expression(0, &mut buffer);

@@ -48,7 +48,7 @@
 //!
 //! An entry allocates nothing. It reads the row and writes the slots that it was lent, and has no
 //! buffer besides; nor does it keep anything from one call to the next. The stack that it uses is
-//! bounded, since at most 200 expressions and inner types may be open at once: it is less than 70
+//! bounded, since at most 40 expressions and inner types may be open at once: it is less than 16
 //! KiB. Only [`Tokens`], [`Nodes`], [`Walk`] and [`Drawing`] allocate.
 //!
 //! The package is `no_std`. Without the feature `alloc`, which is on by default, these four are not

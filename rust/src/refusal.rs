@@ -197,7 +197,7 @@ impl fmt::Display for Refusal {
             ),
             RefusalNumber::NestingExceeded => write!(
                 f,
-                "An expression or inner type begins at token {start}, and 200 are already open."
+                "An expression or inner type begins at token {start}, and 40 are already open."
             ),
             _ => write!(
                 f,

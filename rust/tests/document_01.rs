@@ -85,8 +85,8 @@ fn limits() {
     assert_eq!(between_pipes(127), refused(24, 1, 128, 128, 0));
     assert!(between_pipes(126).is_ok());
     let nested = |n| expression(&[&[1].repeat(n), &[55], &[2].repeat(n)]);
-    assert!(nested(199).is_ok());
-    assert_eq!(nested(200), refused(34, 200, 200, 200, 0));
+    assert!(nested(39).is_ok());
+    assert_eq!(nested(40), refused(34, 40, 40, 40, 0));
 }
 
 #[test]

@@ -181,7 +181,7 @@ fn stack_of_words(_: &[u8]) -> usize {
 /// what stands inside all of them.
 #[test]
 fn the_stack_is_bounded() {
-    const BOUND: usize = 70 * 1024;
+    const BOUND: usize = 16 * 1024;
     let levels: [&[u8]; 7] = [
         &[1],
         &[5],
@@ -199,13 +199,13 @@ fn the_stack_is_bounded() {
     }
     assert!(most < BOUND, "{most}");
     // The measure measures.
-    assert!(most > 64_000, "{most}");
+    assert!(most > 13_000, "{most}");
     for (file, words) in [
-        ("src/lib.rs", "it is less than 70\n//! KiB"),
-        ("README.md", "less than 70 KiB"),
-        ("../include/penne.h", "less than 70 KiB of stack"),
-        ("../docs/MANUAL.md", "less than 70 KiB"),
-        ("../docs/PERFORMANCE.md", "less than 70 KiB"),
+        ("src/lib.rs", "it is less than 16\n//! KiB"),
+        ("README.md", "less than 16 KiB"),
+        ("../include/penne.h", "less than 16 KiB of stack"),
+        ("../docs/MANUAL.md", "less than 16 KiB"),
+        ("../docs/PERFORMANCE.md", "less than 16 KiB"),
     ] {
         let path = std::path::Path::new(env!("CARGO_MANIFEST_DIR")).join(file);
         let text = std::fs::read_to_string(path).expect(file);

@@ -227,7 +227,7 @@ fn rows_at_the_limits() {
             let types = vec![0; kinds.len()];
             beside.compare(Row::new(&kinds, &types), &Question::new(entry));
         };
-        for levels in [1, 198, 199, 200, 201, 300] {
+        for levels in [1, 38, 39, 40, 41, 200] {
             let repeat = |kinds: &[u8]| kinds.repeat(levels);
             for (open, close) in [
                 ([1].as_slice(), [2].as_slice()),

@@ -15,7 +15,7 @@ impl Limit {
     pub const Flags: u32 = 31;
 
     // Expressions and inner types that may be open at once.
-    pub const Nesting: u32 = 200;
+    pub const Nesting: u32 = 40;
 
     // The Rust's MAX_ADDRESS_DEPTH: the most ampersands.
     pub const AddressDepth: u32 = 127;

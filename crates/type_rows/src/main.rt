@@ -35,12 +35,12 @@ fn show_short(text: &[u8], kinds: [u8; 5], slots: usize)
 
 // So many ampersands before i32.
 fn show_pointers(text: &[u8], ampersands: usize)
-    requires { ⌜ ampersands ≤ 200 ⌝ }
+    requires { ⌜ ampersands ≤ 40 ⌝ }
 {
-    let mut kinds = [BaseToken::Ampersand; 202];
+    let mut kinds = [BaseToken::Ampersand; 42];
     kinds[ampersands] = BaseToken::ValueTypeKeyword;
     kinds[ampersands + 1] = BaseToken::EndOfSource;
-    let types = [ValueTypeKeyword::Int32; 202];
+    let types = [ValueTypeKeyword::Int32; 42];
     show(text, &kinds, &types, 8);
 }
 
@@ -166,8 +166,8 @@ fn show_refused() {
         [BaseToken::Ampersand, BaseToken::ValueTypeKeyword, 0, 0, 0],
         3,
     );
-    show_pointers(b"33 199 &", 199);
-    show_pointers(b"34 200 &", 200);
+    show_pointers(b"33 39 &", 39);
+    show_pointers(b"34 40 &", 40);
 }
 
 fn main() {

@@ -6,6 +6,9 @@ const COMMA: u8 = 22;
 const IDENTIFIER: u8 = 53;
 const NUMBER: u8 = 55;
 
+/// The expressions and inner types that may be open at once.
+const LEVELS: usize = oracle::MOST_OPEN as usize;
+
 /// A token: its kind and value type.
 type Token = (u8, u8);
 
@@ -38,13 +41,13 @@ pub fn goals() -> Vec<Case> {
     let mut cases = vec![
         sum(32_767),
         members(10_000),
-        nested("199 parentheses", [1, 2], 199),
+        nested("39 parentheses", [1, 2], LEVELS - 1),
         call(20_000),
     ];
     for (rows, tokens) in [(200, 10), (50, 100), (10, 1_000), (1, 65_535)] {
         cases.push(mixed(Entry::Expression, rows, tokens));
     }
-    cases.push(nested("arrays nested 150 deep", [5, 6], 150));
+    cases.push(nested("arrays nested 38 deep", [5, 6], LEVELS - 2));
     cases
 }
 
@@ -69,8 +72,8 @@ pub fn sizes() -> Vec<Vec<Case>> {
     ]
 }
 
-/// What nests as deep as is accepted, 200 expressions open at once, each by other tokens; types, of
-/// which 200 are open; and what nests one level deeper, which ours refuses.
+/// What nests as deep as is accepted, each by other tokens, expressions and types; and what nests
+/// one level deeper, which ours refuses.
 pub fn deep() -> Vec<Case> {
     let levels: [(&str, &[u8], &[u8]); 6] = [
         ("parentheses", &[1], &[2]),
@@ -91,24 +94,24 @@ pub fn deep() -> Vec<Case> {
     let mut cases: Vec<Case> = Vec::new();
     for (name, open, close) in levels {
         cases.push(case(
-            format!("199 {name}"),
+            format!("39 {name}"),
             Entry::Expression,
             open,
             NUMBER,
             close,
-            199,
+            LEVELS - 1,
         ));
     }
     cases.push(case(
-        "199 `&` of a type".into(),
+        "39 `&` of a type".into(),
         Entry::Type,
         &[10],
         52,
         &[],
-        199,
+        LEVELS - 1,
     ));
-    let refused = "200 parentheses, refused by ours".into();
-    cases.push(case(refused, Entry::Expression, &[1], NUMBER, &[2], 200));
+    let refused = "40 parentheses, refused by ours".into();
+    cases.push(case(refused, Entry::Expression, &[1], NUMBER, &[2], LEVELS));
     cases.push(case(
         "a number".into(),
         Entry::Expression,
@@ -412,26 +415,33 @@ impl Writer {
     }
 
     fn inner_type(&mut self, tokens: usize) {
+        self.inner_type_within(tokens, LEVELS);
+    }
+
+    /// An inner type of at most so many levels. Where an ampersand would leave too few, the longest
+    /// opening is taken.
+    fn inner_type_within(&mut self, tokens: usize, levels: usize) {
+        let tight = tokens >= 3 * (levels - 1);
         match self.below(4) {
             _ if tokens == 1 => self.push_one_of(&[52, 52, IDENTIFIER]),
-            0 if tokens >= 4 => {
+            choice if tokens >= 4 && (tight || choice == 0) => {
                 self.push(5);
                 self.push_one_of(&[55, IDENTIFIER, 19, 32]);
                 self.push(6);
-                self.inner_type(tokens - 3);
+                self.inner_type_within(tokens - 3, levels - 1);
             }
-            1 if tokens >= 3 => {
+            choice if tokens >= 3 && (tight || choice == 1) => {
                 self.row.extend([(5, 0), (6, 0)]);
-                self.inner_type(tokens - 2);
+                self.inner_type_within(tokens - 2, levels - 1);
             }
             2 if tokens >= 3 => {
                 self.push(1);
-                self.inner_type(tokens - 2);
+                self.inner_type_within(tokens - 2, levels - 1);
                 self.push(2);
             }
             _ => {
                 self.push(10);
-                self.inner_type(tokens - 1);
+                self.inner_type_within(tokens - 1, levels - 1);
             }
         }
     }

@@ -41,10 +41,16 @@ pub const TYPES: [Opening; 7] = [
 /// An expression with an inner type inside.
 const TO_TYPES: [Opening; 2] = [(&[PIPE_FOR_TYPE], &[PIPE]), (&[NAKED_DECIMAL, AS], &[])];
 
+/// So many numbers give each opening of each list equally often.
+const ALL: usize = EXPRESSIONS.len() * TYPES.len() * TO_TYPES.len();
+
 /// Which opening each level takes.
 pub enum Choice<'a> {
     /// The one at this place, for all levels.
     Same(usize),
+    /// The one at this place for so many expressions, then a type inside, whose levels take the one
+    /// at this place too.
+    Turning { place: usize, after: usize },
     /// Any, and now and then from expressions to types.
     Any(&'a mut Random),
 }
@@ -69,6 +75,7 @@ fn constant(kinds: &mut Vec<u8>, levels: usize, choice: Choice<'_>) {
     kinds.extend([IDENTIFIER, COLON]);
     let deep_type = match &choice {
         Choice::Same(place) => *place < TYPES.len(),
+        Choice::Turning { .. } => false,
         Choice::Any(_) => levels.is_multiple_of(2),
     };
     if deep_type {
@@ -99,17 +106,21 @@ fn nest(kinds: &mut Vec<u8>, mut in_type: bool, levels: usize, mut choice: Choic
 }
 
 fn next(in_type: &mut bool, choice: &mut Choice<'_>) -> Opening {
-    let random = match choice {
-        Choice::Same(place) if *in_type => return TYPES[*place % TYPES.len()],
-        Choice::Same(place) => return EXPRESSIONS[*place % EXPRESSIONS.len()],
-        Choice::Any(random) => random,
+    let (turns, place) = match choice {
+        Choice::Same(place) => (false, *place),
+        Choice::Turning { place, after } => {
+            let turns = *after == 0;
+            *after = after.saturating_sub(1);
+            (turns, *place)
+        }
+        Choice::Any(random) => (random.once_in(30), random.below(ALL)),
     };
     if *in_type {
-        return TYPES[random.below(TYPES.len())];
+        return TYPES[place % TYPES.len()];
     }
-    if random.once_in(150) {
+    if turns {
         *in_type = true;
-        return TO_TYPES[random.below(TO_TYPES.len())];
+        return TO_TYPES[place % TO_TYPES.len()];
     }
-    EXPRESSIONS[random.below(EXPRESSIONS.len())]
+    EXPRESSIONS[place % EXPRESSIONS.len()]
 }

@@ -253,7 +253,7 @@ fn deep_row(maker: &mut Maker, entry: Entry, sink: &mut dyn Sink) {
     maker.begin();
     let random = &mut maker.writer.random;
     let levels = match random.below(3) {
-        0 => 150 + random.below(100),
+        0 => 30 + random.below(20),
         _ => MOST_OPEN as usize - 3 + random.below(8),
     };
     deep::entry(

@@ -123,7 +123,7 @@ impl Judge {
             }),
             full @ Reply::Refused { number: 33, .. } => Ok(full),
             other => Err(Doubt(format!(
-                "201 are open at {place}, but the Rust, cut there: {other}"
+                "one too many begins at {place}, but the Rust, cut there: {other}"
             ))),
         }
     }

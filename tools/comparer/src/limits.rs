@@ -8,11 +8,12 @@ use crate::random::Random;
 use crate::rows::{Sink, needed};
 
 /// The groups of limits, each a part that is run by itself.
-pub const GROUPS: [fn(&mut Random, &mut dyn Sink); 10] = [
+pub const GROUPS: [fn(&mut Random, &mut dyn Sink); 11] = [
     tokens,
     slots,
     few_slots,
     nesting,
+    mixed_nesting,
     ampersands,
     steps,
     flags_and_words,
@@ -242,11 +243,12 @@ fn rich_rows() -> Vec<(Entry, Vec<u8>)> {
     rows
 }
 
-/// 198 to 203 levels, by each opening alone and by any; also with the slots
-/// used up about where the level too many begins, and without the ends.
+/// Up to three levels too many, by each opening alone and by any; also with
+/// the slots used up about where the level too many begins, and without the
+/// ends.
 fn nesting(random: &mut Random, sink: &mut dyn Sink) {
     for entry in Entry::ALL {
-        for levels in MOST_OPEN as usize - 2..=MOST_OPEN as usize + 3 {
+        for levels in 1..=MOST_OPEN as usize + 3 {
             for opening in 0..EXPRESSIONS.len() {
                 let mut kinds = Vec::new();
                 deep::entry(&mut kinds, entry, levels, Choice::Same(opening));
@@ -261,11 +263,27 @@ fn nesting(random: &mut Random, sink: &mut dyn Sink) {
     }
 }
 
+/// About as many levels as allowed, of which the first are expressions and the
+/// others inner types, with the turn at each level.
+fn mixed_nesting(_: &mut Random, sink: &mut dyn Sink) {
+    for entry in [Entry::Expression, Entry::Constant] {
+        for levels in MOST_OPEN as usize - 2..=MOST_OPEN as usize + 3 {
+            for after in 0..levels - 1 {
+                for place in 0..EXPRESSIONS.len() {
+                    let mut kinds = Vec::new();
+                    deep::entry(&mut kinds, entry, levels, Choice::Turning { place, after });
+                    ask_deep(entry, &kinds, sink);
+                }
+            }
+        }
+    }
+}
+
 fn ask_deep(entry: Entry, kinds: &[u8], sink: &mut dyn Sink) {
     for end in [kinds.len(), kinds.len() - 1, kinds.len() / 2] {
         let tokens = give(&kinds[..end], sink);
         ask(entry, tokens, sink);
-        for slots in [0, 1, 10, 200, 600, 800, 1_000] {
+        for slots in [0, 1, 10, 40, 80, 120, 160, 200] {
             sink.ask(Question::new(entry, slots));
         }
     }

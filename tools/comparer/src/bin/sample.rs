@@ -11,7 +11,7 @@ use std::{fs, io, path::Path};
 use comparer::deep::{self, Choice};
 use comparer::judge::Judge;
 use comparer::kind::*;
-use comparer::question::{Entry, MOST_SLOTS, Question, Reply, Row};
+use comparer::question::{Entry, MOST_OPEN, MOST_SLOTS, Question, Reply, Row};
 use comparer::random::Random;
 use comparer::rows::{Maker, spoil};
 
@@ -195,7 +195,7 @@ fn large_candidates() -> Vec<Candidate> {
             candidates.push(Candidate::of_kinds(&whole, Question { base, ..question }));
         }
         for opening in [0, 1, 5] {
-            for levels in [200, 201] {
+            for levels in [MOST_OPEN as usize, MOST_OPEN as usize + 1] {
                 let kinds = deep_row(entry, levels, opening);
                 let base = 10 * opening as u32;
                 candidates.push(Candidate::of_kinds(&kinds, Question { base, ..question }));
