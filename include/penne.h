@@ -326,12 +326,12 @@ bool penne_parse_constant_declaration(const uint8_t *kinds, size_t n, const uint
                                       uint32_t cursor, uint8_t *node_kinds, size_t m, uint32_t *node_loads, size_t m2,
                                       uint32_t count, uint32_t start, uint32_t flags, uint32_t *reply, size_t k);
 
-/* From the name of the struct on. */
+/* From the name of the struct on. Its last member may drop its comma. */
 bool penne_parse_struct_declaration(const uint8_t *kinds, size_t n, const uint8_t *types, size_t n2, uint32_t cursor,
                                     uint8_t *node_kinds, size_t m, uint32_t *node_loads, size_t m2, uint32_t count,
                                     uint32_t start, uint32_t flags, uint32_t *reply, size_t k);
 
-/* From the name of the word on. */
+/* From the name of the word on. Its last member may drop its comma. */
 bool penne_parse_word_declaration(const uint8_t *kinds, size_t n, const uint8_t *types, size_t n2, uint32_t cursor,
                                   uint8_t *node_kinds, size_t m, uint32_t *node_loads, size_t m2, uint32_t count,
                                   uint32_t start, uint32_t flags, uint8_t declaring_token, uint32_t *reply, size_t k);

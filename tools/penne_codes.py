@@ -222,7 +222,7 @@ REFUSALS = {
         "MaximumParseDepthExceeded",
         "There are too many ampersands or reference steps: they begin at token {start} and end before token {end}.",
     ),
-    25: ("ExpectedComma", "Token {start} should be the comma `,` after a member."),
+    25: ("ExpectedComma", "Token {start} should be a comma `,` or a closing brace `}}` after a member."),
     30: ("BadCursor", "The cursor or the start of the declaration is not below the number of tokens."),
     31: ("BadColumns", "The node columns differ in length, or have more than 131,075 slots."),
     32: ("BadCount", "The node count is above the number of slots."),

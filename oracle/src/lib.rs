@@ -21,12 +21,14 @@ mod delta;
 mod buffer;
 mod guard;
 pub mod hexadecimal;
+mod last_comma;
 mod nesting;
 mod node;
 mod reply;
 
 pub use buffer::{Buffer, WIDE};
 pub use guard::Cause;
+pub use last_comma::{ask_with_comma, dropped_comma};
 pub use nesting::nesting;
 pub use reply::{Numbers, Reply};
 
@@ -63,9 +65,15 @@ impl Row {
         if kinds.last() != Some(&0) {
             return unaskable(3, kinds.len() - 1);
         }
+        Ok(Row::of_any_length(kinds, value_types))
+    }
+
+    /// A row that may have more tokens than document 01 allows; all else was
+    /// checked.
+    fn of_any_length(kinds: &[u8], value_types: &[u8]) -> Row {
         let tokens = delta::lexer::tokens::Tokens::from_row(kinds, value_types)
             .expect("kinds and value types were checked");
-        Ok(Row { tokens })
+        Row { tokens }
     }
 
     /// The number of tokens, EndOfSource included.

@@ -54,8 +54,9 @@ impl Reply {
     }
 
     /// The reply that document 01 has where the Rust panics in a parse: 33 if
-    /// the slots were used up, and 25 if a member has no comma. None if the
-    /// cause is not known. A word of another kind (36) is refused before.
+    /// the slots were used up, and 25 if a member is followed by no comma; see
+    /// `dropped_comma` for the closing brace. None if the cause is not known.
+    /// A word of another kind (36) is refused before.
     pub fn in_document_01(self) -> Option<Reply> {
         let Reply::Panicked {
             cause,

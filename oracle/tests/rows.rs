@@ -1,6 +1,8 @@
 //! The rows of document 01 with their replies, as far as the Rust answers them.
 
-use oracle::{Buffer, Cause, Entry, Question, Reply, Row, Unaskable};
+use oracle::{
+    Buffer, Cause, Entry, Question, Reply, Row, Unaskable, ask_with_comma, dropped_comma,
+};
 
 fn row(source: &str) -> Row {
     let (kinds, value_types) = oracle::lex(source);
@@ -132,12 +134,32 @@ fn an_opaque_struct() {
     assert_eq!(nodes, [(0, 0), (58, 0), (7, 0), (8, 1), (1, 16), (4, 0)]);
 }
 
-/// Document 01 has 25 here, start 5, cursor 6 and count 2: the Rust panics.
+/// The Rust panics where no comma follows a member. Document 01 has 25 there,
+/// and request 2 an acceptance where it is the closing brace.
 #[test]
 fn a_member_without_a_comma() {
-    let (reply, nodes) = ask("S { m: T }", Question::new(Entry::Struct));
-    assert_eq!(reply, panicked(Cause::Unreachable, 6, 2));
-    assert_eq!(nodes, [(48, 4), (9, 2)]);
+    let question = Question::new(Entry::Struct);
+    for source in ["S { m: T; }", "S { m: T }"] {
+        let (reply, nodes) = ask(source, question);
+        assert_eq!(reply, panicked(Cause::Unreachable, 6, 2));
+        assert_eq!(nodes, [(48, 4), (9, 2)]);
+    }
+    let semicolon = [53, 3, 53, 19, 53, 20, 4, 0];
+    let reply = panicked(Cause::Unreachable, 6, 2);
+    assert_eq!(dropped_comma(&semicolon, &question, reply), None);
+    let brace = [53, 3, 53, 19, 53, 4, 0];
+    assert_eq!(dropped_comma(&brace, &question, reply), Some(5));
+    let mut buffer = Buffer::wide();
+    let mut ask = |slots| {
+        let question = Question { slots, ..question };
+        ask_with_comma(&brace, &[0; 7], 5, &question, &mut buffer).expect("a reply")
+    };
+    assert_eq!(ask(None), accepted(8, 6, 9));
+    // No slot for the item, and none for what follows it.
+    for slots in 2..9 {
+        assert_eq!(ask(Some(slots)), panicked(Cause::Slots, 6, slots));
+    }
+    assert_eq!(ask(Some(1)), panicked(Cause::Slots, 5, 1));
 }
 
 #[test]

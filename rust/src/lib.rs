@@ -278,7 +278,7 @@ pub fn parse_constant_declaration<'n>(
 
 /// Reads a struct from its name on. The caller has taken `struct` and what stands before it; the
 /// declaration began at the token `start_of_declaration`. A struct without members in braces gets
-/// the flag OpaqueStruct.
+/// the flag OpaqueStruct. The last member may drop its comma.
 ///
 /// ```
 /// use penne_parser::BaseToken::{Identifier, Semicolon, Struct};
@@ -312,7 +312,7 @@ pub fn parse_struct_declaration<'n>(
 
 /// Reads a word from its name on. The caller has taken the declaring token, Word8 to Word128, which
 /// decides the word's size, and what stands before it; the declaration began at the token
-/// `start_of_declaration`.
+/// `start_of_declaration`. The last member may drop its comma.
 ///
 /// ```
 /// use penne_parser::BaseToken::{BraceLeft, BraceRight, Colon, Comma, Identifier, Word32};

@@ -63,7 +63,7 @@ refusal_numbers! {
         MissingMemberType = 23,
         /// Too many ampersands or reference steps.
         MaximumParseDepthExceeded = 24,
-        /// No `,` after a member.
+        /// Neither `,` nor `}` after a member.
         ExpectedComma = 25,
         /// The cursor or the start of the declaration is not in the row.
         BadCursor = 30,
@@ -109,7 +109,7 @@ impl RefusalNumber {
             ExpectedPrimary => "the start of a primary expression",
             MissingConstantType => "the colon `:` after the name of a constant",
             MissingMemberType => "the colon `:` after the name of a member",
-            ExpectedComma => "the comma `,` after a member",
+            ExpectedComma => "a comma `,` or a closing brace `}` after a member",
             _ => return None,
         })
     }

@@ -141,6 +141,11 @@ fn declarations() {
     nodes.clear();
     let no_comma = Kinds::of(&[&[53, 3, 53, 19, 53, 4]]);
     let reply = parse_struct_declaration(no_comma.row(), START, &mut *nodes, START, NO_FLAGS);
+    assert_eq!(reply, accepted(8, 6, 9));
+
+    nodes.clear();
+    let semicolon = Kinds::of(&[&[53, 3, 53, 19, 53, 20, 4]]);
+    let reply = parse_struct_declaration(semicolon.row(), START, &mut *nodes, START, NO_FLAGS);
     assert_eq!(reply, refused(25, 5, 5, 6, 2));
     assert_eq!(nodes.len(), 2);
     nodes.truncate(0);

@@ -98,7 +98,12 @@ impl Beside {
             ..*question
         };
         let theirs = oracle::Row::new(row.kinds, row.value_types).expect("a row");
-        let reply = theirs.ask(question, &mut self.buffer).expect("a reply");
+        let mut reply = theirs.ask(question, &mut self.buffer).expect("a reply");
+        if let Some(place) = oracle::dropped_comma(row.kinds, question, reply) {
+            let (kinds, types) = (row.kinds, row.value_types);
+            reply = oracle::ask_with_comma(kinds, types, place, question, &mut self.buffer)
+                .expect("a reply");
+        }
         let expected = expected(question, reply, &self.buffer);
         let slots = slots as usize;
         let mut count = question.base;

@@ -1,6 +1,6 @@
 -- How the answers of the readers of declarations follow from those of the readers that they call, a law for each return.
 use native.Mathlib.Omega.{arith}
-use mathlib.Core.Logic.{_≢_}
+use mathlib.Core.Logic.{_≢_, _⊎_, inl, inr}
 use mathlib.Core.Path.{_≡_, refl, sym}
 use mathlib.Core.Bool.{true, false}
 use mathlib.Core.List.{List, [], _∷_}
@@ -19,16 +19,19 @@ use Rattle.tokens.specs.declared.Optional.{Optional}
 use Rattle.tokens.specs.declared.Consumed.{Consumed}
 use Rattle.tokens.specs.declared.Consumed.the-variants.{Next, Wrong}
 use Rattle.tokens.specs.Answer.{Optionally, kindIn, consumed, consuming}
-use Rattle.tokens.proofs.Laws.{optioned, skipped, there, not-there, holding-consumed}
+use Rattle.tokens.proofs.Laws.{consumes, wrong, optioned, skipped, there, not-there, apart, holding-consumed}
 use Rattle.nodes.specs.declared.ActiveList.{ActiveList}
-use Rattle.nodes.specs.Answer.{ends, appendTwo}
-use Rattle.nodes.proofs.Laws.{active-ends}
+use Rattle.nodes.specs.declared.Listed.{Listed}
+use Rattle.nodes.specs.declared.Listed.the-variants.{List as Items, Full}
+use Rattle.nodes.specs.Answer.{ends, active, listed, appendTwo}
+use Rattle.nodes.proofs.Laws.{active-ends, holding-listed, came-listed}
 use Rattle.types.specs.declared.Short.{Short}
 use Rattle.types.specs.Answer.{Shorts}
 use Rattle.types.proofs.Laws.{short-type}
 use Rattle.references.specs.declared.Stepped.{Stepped}
-use Rattle.references.specs.declared.Stepped.the-variants.{Last, Refused as Stopped}
+use Rattle.references.specs.declared.Stepped.the-variants.{More, Last, Refused as Stopped}
 use Rattle.references.specs.Answer.{stepped, stepping}
+use Rattle.references.proofs.Laws.{step-more, step-full}
 use Rattle.declarations.specs.Answer.{coloned, named, memberTyped, declaring, structured, opaqueStruct}
 use Rattle.declarations.specs.Answer.{valued, memberEnding}
 use Rattle.rules.specs.Codes.BaseToken as BaseToken
@@ -36,7 +39,7 @@ use Rattle.rules.specs.Codes.ParseNode as ParseNode
 use Rattle.rules.specs.Codes.Refusal as Refusal
 use Rattle.rules.specs.Codes.DeclarationFlag as DeclarationFlag
 use Rattle.rules.specs.Reading.{_>>=_, consume}
-use Rattle.rules.specs.Words.{Words, words, append, pushEndOfList}
+use Rattle.rules.specs.Words.{Words, words, append, pushListItem, pushEndOfList}
 use Rattle.rules.specs.Types.{type}
 use Rattle.rules.specs.Expressions.{expression}
 use Rattle.rules.specs.Declarations.{opaque, sizeOfWord, structure, constantEnd, colon, typed, value, constant, member}
@@ -140,26 +143,61 @@ module _ (tk tv : List ℕ) (u c : ℕ) {k : ℕ} {ks : List ℕ} {o : Consumed}
       (at-here _ then first _ (name-first tk tv _ u c g) then regroup _ _ _ c _ then
       reads _ (came-read (holding-consumed .plain) (g .run tv ks) w)) d
 
--- after a member
-module _ (tk : List ℕ) (l : ActiveList) (t c : ℕ) {k : ℕ} {ks : List ℕ} {o : Consumed}
-    (g : Quiet consumed (consuming BaseToken.Comma) tk c k o) where
-  pub comma-missing :
-      {r : Parsed} → o ≡ Wrong r →
-      Untyped stepped (memberEnding (ends l) t) tk c (nodes ks k) (Stopped r) ks
+-- after a member: a comma or the closing brace, and the list's item
+module _ (tk : List ℕ) (l : ActiveList) (t c x k : ℕ) (peeked : x ≡ kindIn tk c) {ks : List ℕ} where
+  pub end-missing :
+      ((x ≡ BaseToken.BraceRight) ⊎ (x ≡ BaseToken.Comma) → ⊥) →
+      Untyped stepped (memberEnding (ends l) t) tk c (nodes ks k)
+      (Stopped (Refused Refusal.ExpectedComma (token (c + 1)) k (token c) (token c))) ks
   unfolding memberEnding memberEnd consuming
-  comma-missing w = record { run = λ tv. hands-on _ stays (held holding-consumed (g .run tv ks) w) }
-
-  pub comma-read :
-      {p : TokenId} {j : ℕ} → o ≡ Next p j → {r : Stepped} {ks' : List ℕ} →
-      Unread stepped (stepping (ends l) t) (p .0) (nodes ks j) r ks' →
-      Untyped stepped (memberEnding (ends l) t) tk c (nodes ks k) r ks'
-  unfolding memberEnding memberEnd consuming stepping
-  comma-read q d = record {
+  end-missing h = record {
     run = λ tv.
-        shows (reads _ (came-read (holding-consumed .plain) (g .run tv ks) q)) (d .run (row tk tv));
+        hands-on _ (reads _ (not-there tk c x peeked tv _ (λ e. h (inl e))))
+        (held holding-consumed (wrong tk BaseToken.Comma x c k peeked (λ e. h (inr e)) _ refl .run tv ks) refl);
   }
 
--- a member with its comma, or the closing brace
+  module _ {o : Listed} {ks' : List ℕ} (g : As listed (pushListItem (ends l)) (c + 1) (nodes ks k) o ks') where
+    -- a comma is taken, and what is read after it is read after the member
+    comma-read :
+        x ≡ BaseToken.Comma → {r : Stepped} → Unread stepped (stepping (ends l) t) (c + 1) (nodes ks k) r ks' →
+        Untyped stepped (memberEnding (ends l) t) tk c (nodes ks k) r ks'
+    unfolding memberEnding memberEnd consuming stepping
+    comma-read e d = record {
+      run = λ tv.
+          shows
+          (reads _ (not-there tk c x peeked tv _ (apart x _ _ refl e)) then
+          reads _ (came-read (holding-consumed .plain) (consumes tk BaseToken.Comma x c k peeked e .run tv ks) refl))
+          (d .run (row tk tv));
+    }
+
+    pub member-more :
+        x ≡ BaseToken.Comma → {m : ActiveList} {p : TokenId} {j : ℕ} → o ≡ Items m p j →
+        Untyped stepped (memberEnding (ends l) t) tk c (nodes ks k) (More m p j) ks'
+    member-more e q = comma-read e (step-more l t g q)
+
+    pub member-last :
+        (x ≡ BaseToken.Comma → ⊥) → (x ≡ BaseToken.BraceRight) ⊎ (x ≡ BaseToken.Comma) →
+        {m : ActiveList} {p : TokenId} {j : ℕ} → o ≡ Items m p j →
+        Untyped stepped (memberEnding (ends l) t) tk c (nodes ks k) (Last m p j) ks'
+    unfolding memberEnding memberEnd
+    member-last h (inr e) q = absurd (h e)
+    member-last h (inl e) {m} {p} {j} q = record {
+      run = λ tv.
+          let z : As stepped (memberEnding (ends l) t (row tk tv)) c (nodes ks k) (Last (active (ends m)) p j) ks' =
+          answers (reads _ (there tk c x peeked tv _ e) then reads _ (came-listed g q)) in
+          rw (active-ends m) at z;
+    }
+
+    pub member-full :
+        (x ≡ BaseToken.BraceRight) ⊎ (x ≡ BaseToken.Comma) → {r : Parsed} → o ≡ Full r →
+        Untyped stepped (memberEnding (ends l) t) tk c (nodes ks k) (Stopped r) ks'
+    unfolding memberEnding memberEnd
+    member-full (inr e) q = comma-read e (step-full l t g q)
+    member-full (inl e) q = record {
+      run = λ tv. hands-on _ (reads _ (there tk c x peeked tv _ e)) (held holding-listed g q);
+    }
+
+-- a member and what follows it, or the closing brace
 module _ (tk tv : List ℕ) (u c : ℕ) (l : ActiveList) {k : ℕ} {ks : List ℕ} {o : Optional}
     (d : Optionally tk BaseToken.BraceRight c o) where
   pub members-end :

@@ -1,5 +1,5 @@
 -- The members of a struct or word: what their loop keeps between two rounds, and a law for each return.
-use mathlib.Core.Path.{_≡_, ap}
+use mathlib.Core.Path.{_≡_, refl, ap}
 use mathlib.Core.Bool.{Bool, true, false}
 use mathlib.Core.List.{List}
 use mathlib.Core.Option.{Option, none}
@@ -21,13 +21,15 @@ use Rattle.references.specs.declared.Stepped.{Stepped}
 use Rattle.references.specs.declared.Stepped.the-variants.{More, Last, Refused as Stopped}
 use Rattle.references.specs.Answer.{stepped}
 use Rattle.references.proofs.Laws.{holding-stepped}
-use Rattle.references.proofs.Bounds.{step-fits}
+use Rattle.references.proofs.Bounds.{item-fits, step-fits}
 use Rattle.expressions.proofs.Steps.{more-same, last-same}
 use Rattle.rules.specs.Codes.{pick}
 use Rattle.rules.specs.Codes.Refusal as Refusal
-use Rattle.rules.specs.Reading.{Row, Step, done, again, pure, refuse, repeat, loop, _>>=_, optional}
+use Rattle.rules.specs.Codes.BaseToken as BaseToken
+use Rattle.rules.specs.Reading.{Row, Step, done, again, pure, refuse, repeat, loop, _>>=_, optional, consume}
+use Rattle.rules.specs.Expressions.{stepEnd}
 use Rattle.rules.specs.Lists.{Ends}
-use Rattle.rules.specs.Words.{Words, words, pushEndOfList}
+use Rattle.rules.specs.Words.{Words, words, pushListItem, pushEndOfList}
 use Rattle.rules.specs.Declarations.{member, memberEnd, memberItem, memberList}
 use Rattle.rules.proofs.Forward.{Round}
 use Rattle.rules.proofs.Forward.{below}
@@ -41,6 +43,14 @@ member-fits :
 unfolding memberItem memberEnd optional
 member-fits at u l {s = s} {b = b} {c' = c'} {s' = s'} e h = let w = split e in go (w .value) (w .two)
   where
+    over :
+        (v : Bool) (t : ℕ) {p : ℕ} {x : Words} →
+        Onto (pick v (pushListItem l >>= λ m. pure (done m)) (consume at BaseToken.Comma >>= λ _. stepEnd words at l t))
+        p x (pure b) c' s' →
+        past (active (heldIn b)) ≤ s' .count
+    over true t e = item-fits l done (λ m. refl) e h
+    over false t e = step-fits at l t (split e .two) h
+
     go :
         (v : Bool) {p : ℕ} {t : Words} →
         Onto (pick v (pure (done l)) (member words at u >>= λ m. memberEnd words at l m)) p t (pure b) c' s' →
@@ -49,7 +59,7 @@ member-fits at u l {s = s} {b = b} {c' = c'} {s' = s'} e h = let w = split e in 
         let (y, z) = same-held (done l) b p c' e in
         let v : past (active l) ≡ past (active (heldIn b)) = ap (λ (x : Option Ends). past (active x)) y in
         omega arith
-    go false e = step-fits at l _ (split (split e .two) .two) h
+    go false e = let w = split (split e .two) in over (w .value) _ (w .two)
 
 -- Between two members: what is left of their list.
 abbrev pub Members : List ℕ → List ℕ → ℕ → ℕ → Words → ActiveList → ℕ → Words → Type 0

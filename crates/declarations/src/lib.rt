@@ -21,13 +21,14 @@ use codes::Refusal;
 use codes::TokenId;
 use expressions::parse_expression;
 use nodes::ActiveList;
+use nodes::Listed;
 use nodes::push;
 use nodes::push_end_of_list;
+use nodes::push_list_item;
 use nodes::push_older_node;
 use nodes::push_two;
 use nodes::start_list;
 use references::Stepped;
-use references::push_step;
 use tokens::Consumed;
 use tokens::consume;
 use tokens::consume_optional;
@@ -155,7 +156,7 @@ fn parse_member(
     }
 }
 
-// After a member: its comma, and then the member becomes an item of the list.
+// After a member: a comma, or the brace that closes the list; and then the member becomes an item of the list.
 fn finish_member(
     kinds: &[u8],
     node_words: &mut [u32],
@@ -167,16 +168,45 @@ fn finish_member(
     requires { ⌜ (cursor .0 ≤ Limits.Tokens + 1) × WithinSlots (now «node_words») count × (past list ≤ count) ⌝ }
     ensures { λ r. ⌜ Untyped stepped (memberEnding (ends list) (member .0)) (now (kinds .entry)) (cursor .0) (nodes (now («node_words» .entry)) count) r (now («node_words» .exit)) ⌝ }
 {
-    match consume(kinds, cursor, count, BaseToken::Comma) {
-        Consumed::Next {
-            cursor: after,
-            count: same,
-        } => push_step(node_words, after, same, list, member),
-        Consumed::Wrong { refusal } => Stepped::Refused { refusal },
+    let next = TokenId(cursor.0 + 1);
+    let token = peek(kinds, cursor);
+    match token {
+        BaseToken::Comma | BaseToken::BraceRight => {
+            match push_list_item(node_words, next, count, list) {
+                Listed::List {
+                    list: grown,
+                    cursor: after,
+                    count: used,
+                } => {
+                    if token == BaseToken::Comma {
+                        return Stepped::More {
+                            list: grown,
+                            cursor: after,
+                            count: used,
+                        };
+                    }
+                    Stepped::Last {
+                        list: grown,
+                        cursor: after,
+                        count: used,
+                    }
+                }
+                Listed::Full { refusal } => Stepped::Refused { refusal },
+            }
+        }
+        _ => Stepped::Refused {
+            refusal: Parsed::Refused {
+                number: Refusal::ExpectedComma,
+                start: cursor,
+                end: cursor,
+                cursor: next,
+                count,
+            },
+        },
     }
 }
 
-// A member with its comma, or the closing brace.
+// A member and what follows it, or the closing brace.
 fn parse_member_item(
     kinds: &[u8],
     types: &[u8],
@@ -251,7 +281,7 @@ fn parse_rest_of_members(
     }
 }
 
-// Members in braces, a comma after each: their list.
+// Members in braces, with commas between them and perhaps after the last: their list.
 fn parse_struct_members(
     kinds: &[u8],
     types: &[u8],

@@ -1,5 +1,5 @@
 -- What the readers of references take for granted holds where they are called, and after them.
-use mathlib.Core.Path.{_≡_, _∙_, ap}
+use mathlib.Core.Path.{_≡_, refl, sym, _∙_, ap}
 use mathlib.Core.List.{List, []}
 use mathlib.Core.Option.{Option, none}
 use Prim.Native.Nat.{ℕ, _+_, _≤_}
@@ -23,9 +23,9 @@ use Rattle.references.specs.Answer.{closing, counting}
 use Rattle.references.proofs.Laws.{holding-depths}
 use Rattle.rules.specs.Codes.{refusalOf}
 use Rattle.rules.specs.Codes.Limit as Limit
-use Rattle.rules.specs.Reading.{Row, Step, again, pure}
+use Rattle.rules.specs.Reading.{Row, Step, again, pure, _>>=_}
 use Rattle.rules.specs.Lists.{Ends}
-use Rattle.rules.specs.Words.{Words, words}
+use Rattle.rules.specs.Words.{Words, words, pushListItem}
 use Rattle.rules.specs.Expressions.{closed, deref, nameAlone, stepEnd}
 use Rattle.rules.proofs.Forward.{Stop, Nonzero, Goes, _then_, eased, appends, closes, consumes}
 use Rattle.rules.proofs.Forward.{below}
@@ -98,15 +98,23 @@ pub after-name :
     WithinSlots ns k → WithinSlots ns' j × (k ≤ j) × (p .0 ≡ c)
 after-name name {c = c} g q z = slots-after plain-parsed (name-there {n = c} name) (omega arith) g q z
 
--- the list of a step is as that of its item
+-- the list of a step, or of a round that is the last, is as that of its item
+pub item-fits :
+    (l : Option Ends) (f : Option Ends → Step (Option Ends) (Option Ends)) → ((m : Option Ends) → heldIn (f m) ≡ m) →
+    {c : ℕ} {s : Words} {b : Step (Option Ends) (Option Ends)} {c' : ℕ} {s' : Words} →
+    Onto (pushListItem l >>= λ m. pure (f m)) c s (pure b) c' s' → past (active l) ≤ s' .count →
+    past (active (heldIn b)) ≤ s' .count
+item-fits l f held {b = b} {c' = c'} {s' = s'} e h =
+    let w = split e in
+    let (y, z) = same-held (f (w .value)) b (w .cursor) c' (w .two) in
+    let v : past (active (w .value)) ≡ past (active (heldIn b)) =
+    ap (λ (x : Option Ends). past (active x)) (sym (held (w .value)) ∙ y) in
+    let g = item-past l (w .one) (omega arith) in
+    omega arith
+
 pub step-fits :
     (at : Row) (l : Option Ends) (content : ℕ) {c : ℕ} {s : Words} {b : Step (Option Ends) (Option Ends)} {c' : ℕ}
     {s' : Words} → Onto (stepEnd words at l content) c s (pure b) c' s' → past (active l) ≤ s' .count →
     past (active (heldIn b)) ≤ s' .count
 unfolding stepEnd
-step-fits at l content {b = b} {c' = c'} {s' = s'} e f =
-    let w = split e in
-    let (y, z) = same-held (again (w .value)) b (w .cursor) c' (w .two) in
-    let v : past (active (w .value)) ≡ past (active (heldIn b)) = ap (λ (x : Option Ends). past (active x)) y in
-    let h = item-past l (w .one) (omega arith) in
-    omega arith
+step-fits at l content e h = item-fits l again (λ m. refl) e h

@@ -11,7 +11,7 @@ use Rattle.rules.proofs.Sim.{Relation, Token, Sim, Alike, Any, _same_, 
 use Rattle.rules.proofs.Rounds.{Stepped}
 use Rattle.rules.proofs.Model.{Rows, Model, plus}
 use Rattle.rules.proofs.Steps.{One, First, Open, Gains, Follows, spare, stays, under, closed-at-once}
-use Rattle.rules.proofs.Steps.{node-sim, leaf-sim, link-sim, close-sim, here-sim, here-at, consume-sim}
+use Rattle.rules.proofs.Steps.{node-sim, leaf-sim, link-sim, item-sim, close-sim, here-sim, here-at, consume-sim}
 use Rattle.rules.proofs.Steps.{refuse-at, optionally, optionally-from, _otherwise_, loop-sim}
 use Rattle.rules.proofs.Types.{type-rule}
 use Rattle.rules.proofs.References.{step-end}
@@ -91,8 +91,12 @@ module _ {B B' : Builder} {rel : Relation (B .S) (B' .S)} (M : Model B B' rel) w
         optionally M R _ (
         spare M 5 (gives λ c s s' p. (us, refl, refl, p)) otherwise
         member-sim unused x (opened us F) for each λ t.
+        optionally M R _ (
+        spare M 13 (
+        item-sim M us t for each λ vs.
+        gives λ c s s' p. (vs, refl, refl, p)) otherwise
         consume-sim M R _ same λ _ _.
-        spare M 13 (step-end M R us t))
+        spare M 13 (step-end M R us t)))
 
     pub members-sim :
         {x : ℕ} {F : Besides} (unused : ℕ) →

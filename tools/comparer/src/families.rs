@@ -15,6 +15,9 @@ pub enum Family {
     Damaged,
     /// Any tokens.
     Any,
+    /// Structs and words by the rules whose last member has no comma, some
+    /// damaged.
+    Commas,
     /// About as deep as rows may nest.
     Deep,
     /// By the rules, with many numbers of slots.
@@ -37,7 +40,7 @@ pub enum Family {
 }
 
 impl Family {
-    pub const ALL: [Family; 12] = [
+    pub const ALL: [Family; 13] = [
         Family::Limits,
         Family::Short,
         Family::Four,
@@ -48,6 +51,7 @@ impl Family {
         Family::Damaged,
         Family::Any,
         Family::Slots,
+        Family::Commas,
         Family::Deep,
         Family::Inputs,
     ];
@@ -57,6 +61,7 @@ impl Family {
             Family::Rules => "rules",
             Family::Damaged => "damaged",
             Family::Any => "any",
+            Family::Commas => "commas",
             Family::Deep => "deep",
             Family::Slots => "slots",
             Family::Inputs => "inputs",
@@ -73,10 +78,11 @@ impl Family {
     /// rows are fixed.
     fn share(self) -> u64 {
         match self {
-            Family::Rules => 380,
+            Family::Rules => 340,
             Family::Damaged => 460,
             Family::Any => 100,
             Family::Slots => 15,
+            Family::Commas => 40,
             Family::Deep => 5,
             Family::Inputs => 40,
             _ => 0,
@@ -137,6 +143,7 @@ impl Part {
             _ => {
                 let mut maker = Maker::new(random);
                 maker.writer.long_lists = true;
+                maker.writer.last_comma = self.family != Family::Commas;
                 for _ in 0..self.rows {
                     self.random_row(&mut maker, sink);
                 }
@@ -180,6 +187,13 @@ impl Part {
         let entry = maker.entry();
         match self.family {
             Family::Slots => slots(maker, entry, sink),
+            Family::Commas => {
+                let entry = [Entry::Struct, Entry::Word][maker.writer.random.below(2)];
+                let room = maker.room();
+                let damaged = maker.writer.random.once_in(4);
+                maker.by_rules(entry, room, damaged);
+                ask(maker, entry, sink);
+            }
             Family::Deep => deep_row(maker, entry, sink),
             Family::Inputs => inputs(maker, entry, sink),
             Family::Any => {

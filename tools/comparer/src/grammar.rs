@@ -10,6 +10,8 @@ pub struct Writer {
     pub kinds: Vec<u8>,
     /// Whether now and then a list has many items.
     pub long_lists: bool,
+    /// Whether the last member has a comma too.
+    pub last_comma: bool,
 }
 
 const LITERALS: [u8; 6] = [
@@ -42,6 +44,7 @@ impl Writer {
             random,
             kinds: Vec::new(),
             long_lists: false,
+            last_comma: true,
         }
     }
 
@@ -286,10 +289,12 @@ impl Writer {
     fn members(&mut self, room: usize) {
         self.put(&[BRACE_LEFT]);
         let times = self.times(5);
-        for _ in 0..times {
+        for left in (0..times).rev() {
             self.put(&[IDENTIFIER, COLON]);
             self.inner_type(room);
-            self.put(&[COMMA]);
+            if self.last_comma || left > 0 {
+                self.put(&[COMMA]);
+            }
         }
         self.put(&[BRACE_RIGHT]);
     }

@@ -64,8 +64,7 @@ impl Judge {
         let reply = if reading.end == End::TooDeep {
             self.cut(question, reading.cursor)?
         } else {
-            let tokens = self.tokens.as_ref().ok_or_else(|| doubt("no tokens"))?;
-            let reply = ask(tokens, question, &mut self.buffer)?;
+            let reply = self.ask(question)?;
             self.agree(question, reading, reply)?;
             in_document_01(reply)?
         };
@@ -74,6 +73,19 @@ impl Judge {
         }
         self.nodes.extend(self.buffer.appended());
         Ok(reply)
+    }
+
+    /// The Rust's answer; where it panics since the last member has no comma,
+    /// to the row with that comma.
+    fn ask(&mut self, question: &Question) -> Result<Reply, Doubt> {
+        let tokens = self.tokens.as_ref().ok_or_else(|| doubt("no tokens"))?;
+        let reply = ask(tokens, question, &mut self.buffer)?;
+        let asked = asked(question);
+        let Some(place) = oracle::dropped_comma(&self.kinds, &asked, reply) else {
+            return Ok(reply);
+        };
+        oracle::ask_with_comma(&self.kinds, &self.types, place, &asked, &mut self.buffer)
+            .map_err(unasked)
     }
 
     /// What the Rust alone says, in words: for people, not for comparing.
@@ -180,8 +192,13 @@ fn doubt(text: &str) -> Doubt {
 
 /// The Rust's own answer to a question that passed the checks.
 fn ask(tokens: &oracle::Row, q: &Question, buffer: &mut Buffer) -> Result<Reply, Doubt> {
+    tokens.ask(&asked(q), buffer).map_err(unasked)
+}
+
+/// A question as the oracle takes it.
+fn asked(q: &Question) -> oracle::Question {
     let declares = q.declares();
-    let question = oracle::Question {
+    oracle::Question {
         entry: q.entry,
         cursor: q.cursor,
         base: q.base,
@@ -193,10 +210,11 @@ fn ask(tokens: &oracle::Row, q: &Question, buffer: &mut Buffer) -> Result<Reply,
         },
         start: if declares { q.start } else { 0 },
         word_kind: q.word_kind,
-    };
-    tokens
-        .ask(&question, buffer)
-        .map_err(|unaskable| Doubt(format!("the oracle: {unaskable:?}")))
+    }
+}
+
+fn unasked(unaskable: oracle::Unaskable) -> Doubt {
+    Doubt(format!("the oracle: {unaskable:?}"))
 }
 
 /// Where the Rust panics, document 01 has 33 and 25.

@@ -320,6 +320,9 @@ impl Reader<'_> {
             self.consume(IDENTIFIER)?;
             self.colon()?;
             self.inner_type()?;
+            if self.optional(BRACE_RIGHT) {
+                return Ok(());
+            }
             self.consume(COMMA)?;
         }
         Ok(())

@@ -23,7 +23,7 @@ usage: compare [--seed N] [--rows N] [--only FAMILY] [--threads N] [--words]
   --seed N       which random rows are made (1)
   --rows N       how many rows are made at random (100,000,000)
   --only FAMILY  leave the others out: limits, short, four, value-types, dozens, six, rules, damaged, any, slots,
-                 deep or inputs (all)
+                 commas, deep or inputs (all)
   --threads N    how many run at once (as many as there are processors)
   --words        ask the entries with a word a node (those with two columns)
   --ask ..       print both answers to one question: ENTRY is 0 to 4 for expression, type, constant, struct and word,

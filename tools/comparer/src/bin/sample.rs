@@ -76,8 +76,9 @@ word kinds. Shorter rows are preferred. Rows for refusals 24, 31, 32 and 34, wit
 stand at the end.
 
 The answers are those of the Rust, run unchanged by `oracle/`; only where it panics (25, 33, 36), does not limit (34) or
-cannot be asked (1, 2, 3, 30, 31, 32, 35) they are document 01's. The program of the gate needs no Rust: it asks the proved
-entries, and what it prints must be these lines.
+cannot be asked (1, 2, 3, 30, 31, 32, 35) they are document 01's. Where the last member has no comma they are those to the
+row with it, the tokens behind it numbered one less. The program of the gate needs no Rust: it asks the proved entries, and
+what it prints must be these lines.
 ";
 
 /// A row with a question.
