@@ -1,6 +1,6 @@
 -- What the checks tell, and what holds where they passed.
 use mathlib.Core.Path.{_≡_, refl, sym, _∙_, ap}
-use mathlib.Core.Bool.{Bool, true, false, not, true≢false}
+use mathlib.Core.Bool.{Bool, true, false, not, _&&_, true≢false}
 use mathlib.Core.List.{List, [], _∷_, map}
 use mathlib.Core.Logic.{_≢_}
 use mathlib.Core.Option.{some, none}
@@ -12,9 +12,11 @@ use borrow.Author.Tests.{ltb-true, ltb-false, eqb-true, eqb-false, lt-ltb, le-lt
 use Rattle.codes.specs.declared.TokenId.{TokenId}
 use Rattle.codes.specs.Answer.{nodes, row}
 use Rattle.codes.specs.Words.{Sized}
+use Rattle.kinds.proofs.Laws.{at-most}
+use Rattle.kinds.specs.Above.{noneAbove}
 use Rattle.checks.specs.declared.Checked.{Checked}
 use Rattle.checks.specs.declared.Checked.the-variants.{Passed, Failed}
-use Rattle.checks.specs.Answer.{checkOf, Bounded}
+use Rattle.checks.specs.Answer.{checkOf, Good}
 use Rattle.checks.specs.Checks.{Check, check, orElse, failing, or, unequal, bad, badToken, lastCheck, rowCheck}
 use Rattle.checks.specs.Checks.{placeCheck, slotsCheck, flagsCheck, wordCheck, inputCheck, declarationCheck}
 use Rattle.checks.specs.Checks.{wordDeclarationCheck}
@@ -87,39 +89,23 @@ module _ (row : Row) (place : ℕ) (h : badToken row 0 (length (row .kinds)) ≡
         let e : length (row .kinds) - place ≡ 0 = omega arith in
         sym (h ∙ rw e refl)
 
--- the largest byte of a column's first places
-pub none-bounded : (xs : List ℕ) (m : ℕ) → Bounded xs 0 m
-none-bounded xs m = record { each = λ k h. absurd (omega arith) }
-
-module _ {xs : List ℕ} {place m : ℕ} (f : Bounded xs place m) where
-  pub one-bounded : {n : ℕ} → m ≤ n → getD xs place 0 ≤ n → Bounded xs (place + 1) n
-  one-bounded {n} h g = record { each = λ k b. by-place k b (eqb k place) refl }
-    where
-      by-place : (k : ℕ) → k < place + 1 → (here : Bool) → eqb k place ≡ here → getD xs k 0 ≤ n
-      by-place k b true q = let w : k ≡ place = eqb-true k place q in rw w g
-      by-place k b false q =
-          let w : k ≢ place = eqb-false k place q in
-          let e = f .each k (omega arith) in
-          omega arith
-
-  pub all-bounded : {size : ℕ} → size ≤ place → Bounded xs size m
-  all-bounded h = record { each = λ k b. f .each k (omega arith) }
-
 -- a row with no bad token
+both-true : (a b : Bool) → a && b ≡ true → (a ≡ true) × (b ≡ true)
+both-true true b e = (refl, e)
+both-true false b e = absurd (true≢false (sym e))
+
 module _
-    (tk tv : List ℕ) {a b : ℕ} (f : Bounded tk (length tk) a) (h : a ≤ BaseToken.Error) (g : Bounded tv (length tk) b)
-    (i : b ≤ ValueTypeKeyword.Bool) where
+    (tk tv : List ℕ) (f : noneAbove BaseToken.Error tk ≡ true) (g : noneAbove ValueTypeKeyword.Bool tv ≡ true)
+    (e : length tv ≡ length tk) where
   none-bad : (place left : ℕ) → place + left ≤ length tk → badToken (row tk tv) place left ≡ none
   unfolding badToken
   none-bad place zero d = refl
   none-bad place (suc left) d =
-      let k = f .each place (omega arith) in
-      let v = g .each place (omega arith) in
-      let x : getD tk place 0 ≤ BaseToken.Error = omega arith in
-      let y : getD tv place 0 ≤ ValueTypeKeyword.Bool = omega arith in
+      let x : getD tk place 0 ≤ BaseToken.Error = at-most BaseToken.Error tk f place (omega arith) in
+      let y : getD tv place 0 ≤ ValueTypeKeyword.Bool = at-most ValueTypeKeyword.Bool tv g place (omega arith) in
       rw (le-ltb _ _ x, le-ltb _ _ y) (none-bad (place + 1) left (omega arith))
 
-  pub all-good : none ≡ badToken (row tk tv) 0 (length tk)
+  all-good : none ≡ badToken (row tk tv) 0 (length tk)
   all-good = sym (none-bad 0 (length tk) (omega arith))
 
 -- the row's size
@@ -144,6 +130,35 @@ module _ (tk tv : List ℕ) where
     unfolding orElse
     row-checked b q f g =
         both q f (g ∙ sym (last-check _)) ∙ rw (eq-eqb _ _ e, ne-eqb _ _ h, le-ltb _ _ b) refl
+
+    pub good-row :
+        length tk ≤ Limit.Tokens → {good : Bool} →
+        good ≡ noneAbove BaseToken.Error tk && noneAbove ValueTypeKeyword.Bool tv → Good good (row tk tv)
+    unfolding orElse
+    good-row b {good} f =
+        record {
+          some = λ g. omega arith;
+          few = λ g. b;
+          checked = λ g.
+              let (x, y) = both-true (noneAbove BaseToken.Error tk) (noneAbove ValueTypeKeyword.Bool tv) (sym f ∙ g) in
+              sym (row-checked b refl (all-good tk tv x y e) refl);
+        }
+
+pub not-good : (row : Row) → Good false row
+not-good row =
+    record {
+      some = λ e. absurd (true≢false (sym e));
+      few = λ e. absurd (true≢false (sym e));
+      checked = λ e. absurd (true≢false (sym e));
+    }
+
+pub good-sized :
+    (tk tv : List ℕ) {good : Bool} → Good good (row tk tv) → good ≡ true → (1 ≤ length tk) × (length tk ≤ Limit.Tokens)
+good-sized tk tv f e = (f .some e, f .few e)
+
+pub good-checked :
+    {good : Bool} {row : Row} → Good good row → good ≡ true → {x : Check} → x ≡ lastCheck row → x ≡ rowCheck row
+good-checked f e g = g ∙ sym (f .checked e)
 
 -- the row's last token
 module _ (row : Row) where

@@ -4,13 +4,14 @@ ghost use Prim.Native.Nat.{_≤_};
 ghost use lib.ListN.{length};
 ghost use Rattle.rules.specs.Codes.Limit as Limits;
 ghost use Rattle.codes.specs.Answer.{row};
-ghost use Rattle.checks.specs.Answer.{checkOf, Bounded};
+ghost use Rattle.checks.specs.Answer.{checkOf, Good};
 ghost use Rattle.checks.specs.Checks.{orElse, badToken, lastCheck, rowCheck, placeCheck, slotsCheck, flagsCheck, wordCheck, inputCheck, declarationCheck, wordDeclarationCheck};
 use codes::BaseToken;
 use codes::Limit;
 use codes::Refusal;
 use codes::TokenId;
 use codes::ValueTypeKeyword;
+use kinds::tokens_pass;
 
 // Whether the input passed some checks, or the number and start of the first refusal.
 pub enum Checked {
@@ -26,36 +27,6 @@ fn or_else(first: Checked, second: Checked) -> Checked
         Checked::Passed => second,
         Checked::Failed { number, start } => Checked::Failed { number, start },
     }
-}
-
-// The larger of two numbers, of which no more is needed than that neither is above it.
-fn larger(a: u8, b: u8) -> u8
-    ensures { λ r. ⌜ (a ≤ r) × (b ≤ r) ⌝ }
-{
-    if a < b { b } else { a }
-}
-
-// The largest kind and the largest value type of a row.
-struct Maxima {
-    kind: u8,
-    value_type: u8,
-}
-
-// The largest of both columns of a row, of which no more is needed than that nothing in its column is above it: where it
-// is too large, each token is looked at. The loop is compiled to vector instructions, since it has no way out but its end.
-fn largest(kinds: &[u8], types: &[u8]) -> Maxima
-    requires { ⌜ length (now types) ≡ length (now kinds) ⌝ }
-    ensures { λ r. ⌜ Bounded (now (kinds .entry)) (length (now (kinds .entry))) (r .kind) × Bounded (now (types .entry)) (length (now (kinds .entry))) (r .«value_type») ⌝ }
-{
-    let mut kind: u8 = 0;
-    let mut value_type: u8 = 0;
-    let mut place: usize = 0;
-    while place < kinds.len() {
-        kind = larger(kind, kinds[place]);
-        value_type = larger(value_type, types[place]);
-        place = place + 1;
-    }
-    Maxima { kind, value_type }
 }
 
 // The first token whose kind or value type is above the last one.
@@ -82,18 +53,6 @@ fn check_each_token(kinds: &[u8], types: &[u8]) -> Checked
     Checked::Passed
 }
 
-// Every token, of which most rows have none that is bad.
-fn check_tokens(kinds: &[u8], types: &[u8]) -> Checked
-    requires { ⌜ (length (now types) ≡ length (now kinds)) × (length (now kinds) ≤ Limits.Tokens) ⌝ }
-    ensures { λ r. ⌜ checkOf r ≡ badToken (row (now (kinds .entry)) (now (types .entry))) 0 (length (now (kinds .entry))) ⌝ }
-{
-    let most = largest(kinds, types);
-    if most.kind <= BaseToken::Error && most.value_type <= ValueTypeKeyword::Bool {
-        return Checked::Passed;
-    }
-    check_each_token(kinds, types)
-}
-
 // The last token of a row.
 fn check_last(kinds: &[u8]) -> Checked
     requires { ⌜ (1 ≤ length (now kinds)) × (length (now kinds) ≤ Limits.Tokens) ⌝ }
@@ -110,10 +69,31 @@ fn check_last(kinds: &[u8]) -> Checked
     }
 }
 
-// The row's size, its tokens, and its last token.
-fn check_row(kinds: &[u8], types: &[u8]) -> Checked
+// Whether a row has a right size and no bad token.
+fn is_good(kinds: &[u8], types: &[u8]) -> bool
+    ensures { λ r. ⌜ Good r (row (now (kinds .entry)) (now (types .entry))) ⌝ }
+{
+    let tokens = kinds.len();
+    if types.len() != tokens {
+        return false;
+    }
+    if tokens == 0 {
+        return false;
+    }
+    if tokens > Limit::Tokens as usize {
+        return false;
+    }
+    tokens_pass(kinds, types, BaseToken::Error, ValueTypeKeyword::Bool)
+}
+
+// The row's size, its tokens, and its last token. Most rows are good: then only the last one is looked at.
+fn check_row(kinds: &[u8], types: &[u8], good: bool) -> Checked
+    requires { ⌜ Good good (row (now kinds) (now types)) ⌝ }
     ensures { λ r. ⌜ checkOf r ≡ rowCheck (row (now (kinds .entry)) (now (types .entry))) ⌝ }
 {
+    if good {
+        return check_last(kinds);
+    }
     let size = kinds.len();
     let bad_row = Checked::Failed {
         number: Refusal::BadRow,
@@ -128,7 +108,7 @@ fn check_row(kinds: &[u8], types: &[u8]) -> Checked
     if size > Limit::Tokens as usize {
         return bad_row;
     }
-    or_else(check_tokens(kinds, types), check_last(kinds))
+    or_else(check_each_token(kinds, types), check_last(kinds))
 }
 
 // A cursor or a declaration's start, in a row of so many tokens.
@@ -212,7 +192,7 @@ pub fn check_input(
     ensures { λ r. ⌜ checkOf r ≡ inputCheck (row (now (kinds .entry)) (now (types .entry))) (cursor .0) slots loads count ⌝ }
 {
     let state = or_else(check_place(kinds, cursor), check_slots(slots, loads, count));
-    or_else(check_row(kinds, types), state)
+    or_else(check_row(kinds, types, is_good(kinds, types)), state)
 }
 
 // What a constant and a struct are checked for.
@@ -231,7 +211,7 @@ pub fn check_declaration(
     let state = or_else(check_slots(slots, loads, count), check_flags(flags));
     let places = or_else(check_place(kinds, start), state);
     or_else(
-        check_row(kinds, types),
+        check_row(kinds, types, is_good(kinds, types)),
         or_else(check_place(kinds, cursor), places),
     )
 }

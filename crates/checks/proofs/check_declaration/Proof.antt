@@ -19,4 +19,5 @@ check-declaration-spec =
     (λ c κs. search needs)
     (λ c κs. search needs)
     (λ c κs. search needs)
+    (λ c κs. search needs)
     returns)

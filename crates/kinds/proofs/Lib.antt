@@ -1,0 +1,4 @@
+pub mod Bits
+pub mod Exact
+pub mod Lanes
+pub mod Laws
