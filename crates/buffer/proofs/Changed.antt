@@ -6,9 +6,10 @@ use Prim.Native.Nat.{ℕ, suc}
 use mathlib.Core.List.{List, [], ◌∷◌}
 use lib.ListN.{length}
 use seplogic.Ra.Ura.{Ura}
-use seplogic.Ra.TreeShare.{full_share}
+use base.Fraction.{full_share}
 use mir.Syntax.{Ty, ty_int, ty_ref, w32, named, erased, mut, deref, field, place, copy, rv_opd, addr_of, aggregate}
-use mir.Syntax.{Body as Code, seq, assign, call, return, value_local, local as loc, Fn, Name}
+use mir.Syntax.{Body as Code, seq, assign, call, return, value_local, local as loc, Fn}
+use prog.Routine.{Callee}
 use mir.Val.{Val, vptr}
 use base.Logic.{SProp, ent, id⊢}
 use base.Fml.{Lft, Share, ftrue, fat, flft, fobs, fbor}
@@ -29,7 +30,7 @@ use denote.Memory.{mem, pointee}
 use denote.Builtin.{u32}
 use denote.Ref.{MutBor, MutRef, mut_vals, mut_Tells}
 use denote.Signature.{plain}
-use denote.Slice.{MutSlice, slice_ty, mut_slice_vals, mut_slice_Tells, mut_slice_Lawful, finally}
+use denote.Slice.{MutSlice, slice_ty, mut_slice_vals, mut_slice_Tells, mut_slice_Lawful}
 use denote.Steps.{only, owned, peeks, heard}
 use denote.Triple.Statement.{Triple}
 use denote.Triple.Call.{calls_at}
@@ -49,14 +50,14 @@ use Rattle.codes.specs.contracts.TokenId as I
 use Rattle.buffer.specs.declared.ParseBuffer.{ParseBuffer}
 use Rattle.buffer.specs.contracts.ParseBuffer as P
 use Rattle.buffer.proofs.ParseBuffer.TheLaws as P'
-use Rattle.buffer.proofs.Held.{buffer, B, cursor, column, relends, lasting}
+use Rattle.buffer.proofs.Held.{buffer, B, cursor, column, Gone, relends, lasting}
 use Rattle.buffer.proofs.Held.{Way, passed, passed-clauses, Passed, lent, lent-clauses, Lent}
 
 -- the type of the local that holds the reference
 abbrev ref-type : Ty
 ref-type = ty_ref (named 0) mut (pointee (P.the_row).written)
 
-module _ (X : Extra) (Y : Way X) (#core : Name) where
+module _ (X : Extra) (Y : Way X) (#core : Callee) where
   -- the n-th local behind the parameters
   abbrev at : ℕ → ℕ
   at n = suc (suc (suc (suc (E.beyond X n))))
@@ -69,26 +70,32 @@ module _ (X : Extra) (Y : Way X) (#core : Name) where
       (seq (assign (place (at 3) []) (rv_opd (copy (place 1 (deref P'.mir ∷ [])))))
       (seq (call #core (copy (place (at 2) []) ∷ copy (place 3 []) ∷ copy (place (at 3) []) ∷ E.operands X 4)
       (place (at 0) []))
-      (seq (assign (place 1 (deref P'.mir ∷ [])) (rv_opd (copy (place (at 0) (field 1 ∷ [])))))
-      (seq (assign (place 0 []) (rv_opd (copy (place (at 0) (field 0 ∷ []))))) return)))))
+      (seq (assign (place (at 4) []) (rv_opd (copy (place (at 0) (field 1 ∷ [])))))
+      (seq (assign (place 1 (deref P'.mir ∷ [])) (rv_opd (copy (place (at 4) []))))
+      (seq (assign (place 0 []) (rv_opd (copy (place (at 0) (field 0 ∷ []))))) return))))))
 
   abbrev function : Fn
   function = record {
     lifetimes = 2;
     outlives = [];
+    ty_params = [];
+    givens = 0;
     params = E.beyond X 3;
     locals =
         loc Y.answer.mir value_local ∷ loc ref-type value_local
         ∷ loc (slice_ty (ty_ref (named 1) mut (ty_int w32))) value_local ∷ loc cursor.mir value_local
         ∷ E.locals X (loc (mir_of Y.step) value_local ∷ loc (ty_ref erased mut (ty_int w32)) value_local
-        ∷ loc (slice_ty (ty_ref erased mut (ty_int w32))) value_local ∷ loc P'.mir value_local ∷ []);
+        ∷ loc (slice_ty (ty_ref erased mut (ty_int w32))) value_local ∷ loc P'.mir value_local
+        ∷ loc P'.mir value_local ∷ []);
     body = body;
   }
 
-  abbrev Temps : ℕ → ℕ → ℕ → ℕ → List (Ty × ℕ)
-  Temps lₛ l₁ l₂ l =
+  -- the locals behind the parameters: the struct that is given, the words' pointer and the words, the record and the
+  -- next one
+  abbrev Temps : ℕ → ℕ → ℕ → ℕ → ℕ → List (Ty × ℕ)
+  Temps lₛ l₁ l₂ l l₃ =
       (mir_of Y.step, lₛ) ∷ (ty_ref erased mut (ty_int w32), l₁) ∷ (slice_ty (ty_ref erased mut (ty_int w32)), l₂)
-      ∷ (P'.mir, l) ∷ []
+      ∷ (P'.mir, l) ∷ (P'.mir, l₃) ∷ []
 
   abbrev stayed : Stays (lent X Y).signature.params (lent X Y).kept
   stayed = (
@@ -109,10 +116,10 @@ module _ (X : Extra) (Y : Way X) (#core : Name) where
     h = y.now
 
     abbrev b : ℕ
-    b = y.ptr.0
+    b = y.ref_ptr.0
 
     abbrev o : ℕ
-    o = y.ptr.1
+    o = y.ref_ptr.1
 
     abbrev x : Values X
     x = E.out 2 κs X a
@@ -173,8 +180,8 @@ module _ (X : Extra) (Y : Way X) (#core : Name) where
     -- what is had at the end, with the record p and the words ws'
     abbrev Ends : ParseBuffer → List ℕ → List (Item 𝓤)
     Ends p ws' =
-        ‵ (fobs y.name ((P.the_row).coded.code p)) ∷ ‵ (fbor κ (Body (mem P.the_row) b o y.name)) ∷ ‵ (flft κ q)
-        ∷ toks ∷ ‵ (finally u32 ws.name ws') ∷ []
+        ‵ (fobs y.ghost_name ((P.the_row).coded.code p)) ∷ ‵ (fbor κ (Body (mem P.the_row) b o y.ghost_name))
+        ∷ ‵ (flft κ q) ∷ toks ∷ ‵ (Gone κ₁ ws ws') ∷ []
 
     exits :
         (r : Y.answer.row.Denot) (p : ParseBuffer) (ws' : List ℕ) → Y.Gives c h ws.now x r p ws' →
@@ -204,30 +211,30 @@ module _ (X : Extra) (Y : Way X) (#core : Name) where
           ∷ E.rows 2 κs X) args vals) ∷ []) ∵
           enter ! C Λ function (vptr b o ∷ column ws ∷ cursor.val c ∷ flat (E.rows 2 κs X) vals.1.1.1) _ $
           alloc1 ! (λ i₀. alloc1 ! (λ i₁. alloc1 ! (λ i₂. alloc1 ! (λ i₃. E.allocs-extra 𝓛 X (λ bs.
-          alloc1 ! (λ lₛ. alloc1 ! (λ l₁. alloc1 ! (λ l₂. alloc1 ! (λ l.
-          naming (E.behind 𝓤 H X bs (Temps lₛ l₁ l₂ l)) (λ spot. alloc0 ! $ params1 ! $
-          pass1 ! (init ! 13 refl (tt, tt)) $
-          pass1 ! (init ! 11 refl ((mut_slice_Lawful 𝓛 (named 1) κ₁ u32).typed ws _ ws-is).0) $
-          pass1 ! (init ! 9 refl (cursor.typed 𝓛 c _ c-is)) $ move ! (8 ∷ []) $
-          E.passes-extra 𝓛 2 κs X bs a x-is (Temps lₛ l₁ l₂ l) $
+          alloc1 ! (λ lₛ. alloc1 ! (λ l₁. alloc1 ! (λ l₂. alloc1 ! (λ l. alloc1 ! (λ l₃.
+          naming (E.behind 𝓤 H X bs (Temps lₛ l₁ l₂ l l₃)) (λ spot. alloc0 ! $ params1 ! $
+          pass1 ! (init ! 15 refl (tt, tt)) $
+          pass1 ! (init ! 13 refl ((mut_slice_Lawful 𝓛 (named 1) κ₁ u32).typed ws _ ws-is).0) $
+          pass1 ! (init ! 11 refl (cursor.typed 𝓛 c _ c-is)) $ move ! (10 ∷ []) $
+          E.passes-extra 𝓛 2 κs X bs a x-is (Temps lₛ l₁ l₂ l l₃) $
           -- the borrow is opened
-          move ! (18 ∷ []) $ fsplit ! $ fsplit3 ! $ drop ! $ move ! (20 ∷ []) $ split ! $ move ! (2 ∷ 3 ∷ 0 ∷ []) $
+          move ! (20 ∷ []) $ fsplit ! $ fsplit3 ! $ drop ! $ move ! (22 ∷ []) $ split ! $ move ! (2 ∷ 3 ∷ 0 ∷ []) $
           opens-whole ! tt buffer h b o (λ was.
           -- [the record's cell; what it owns; the open borrow; obs; auth; the words' token; what the other parameters
-          -- own; the further ones' locals; room for the record; …; the words; …; their pointer; …; room for the struct;
-          -- …; _3; …; _2; …; _1; …; room for _0; …]
-          relends ! ws 18 12 10 refl (spot 1) (spot 2) refl refl refl refl refl ((mut_slice_Lawful 𝓛 (named 1) κ₁
+          -- own; the further ones' locals; room for the next record; …; for the record; …; the words; …; their pointer; …;
+          -- room for the struct; …; _3; …; _2; …; _1; …; room for _0; …]
+          relends ! ws 20 14 12 refl (spot 1) (spot 2) refl refl refl refl refl ((mut_slice_Lawful 𝓛 (named 1) κ₁
           u32).typed ws _ ws-is).0 $
-          assigns ! (of_opd ! (load ! (from ! (hop ! (look ! 20 refl) (stop !))) (look ! 0 refl)))
-          (within ! (spot 3) (stop !)) (init ! 8 refl (B.typed 𝓛 h _ was)) $
+          assigns ! (of_opd ! (load ! (from ! (hop ! (look ! 22 refl) (stop !))) (look ! 0 refl)))
+          (within ! (spot 3) (stop !)) (init ! 10 refl (B.typed 𝓛 h _ was)) $
           move ! (6 ∷ []) $ fsplit ! $ move ! (0 ∷ 7 ∷ []) $
           use2 𝓛 (raw ((Passed X Y 𝓤 𝓛).pre to)) (goes was) $
           -- [what the callee asks; what the plain parameters own; the record's cell; what it owns; the open borrow; obs;
-          -- auth; the further parameters' locals; the record; …]
-          calls_at ! fm (Passed X Y 𝓤 𝓛) known to (and_then ! (load ! (within ! (spot 2) (stop !)) (look ! 10 refl))
-          (and_then ! (local ! 16 refl) (and_then ! (load ! (within ! (spot 3) (stop !)) (look ! 8 refl))
+          -- auth; the further parameters' locals; room for the next record; …; the record; …]
+          calls_at ! fm (Passed X Y 𝓤 𝓛) known to (and_then ! (load ! (within ! (spot 2) (stop !)) (look ! 12 refl))
+          (and_then ! (local ! 18 refl) (and_then ! (load ! (within ! (spot 3) (stop !)) (look ! 10 refl))
           (E.reads-extra 𝓛 1 (κ₁, tt) 4 7 X bs x refl (E.spots 𝓤 H X bs ((Y.answer.mir, i₀) ∷ (ref-type, i₁)
-          ∷ (slice_ty (ty_ref (named 1) mut (ty_int w32)), i₂) ∷ (cursor.mir, i₃) ∷ []) (Temps lₛ l₁ l₂ l)))))) (λ u.
+          ∷ (slice_ty (ty_ref (named 1) mut (ty_int w32)), i₂) ∷ (cursor.mir, i₃) ∷ []) (Temps lₛ l₁ l₂ l l₃)))))) (λ u.
           use1 𝓛 (later (some (λ (s : Y.step.row.Denot). (toks ⊛ ‵ (Y.step.row.own_val s (u ∷ [])))
           ⊛ raw (ensured 𝓛 (passed X Y) (passed-clauses X Y 𝓤) (κ₁, tt) given tt s)))) (id⊢ 𝓤 _) $
           await ! tt $ pick ! (λ s. split ! $ move ! (1 ∷ []) $
@@ -237,26 +244,28 @@ module _ (X : Extra) (Y : Way X) (#core : Name) where
           -- [what the callee gives; the words' token; their last list; …; what the plain parameters own; the record's
           -- cell; what it owns; the open borrow; obs; auth; the further parameters' locals; …]
           peeks ! Y.step.row (Is Y.step.row) (shows 𝓛 Y.step.row) s (u ∷ []) (λ is.
-          land ! (within ! (spot 0) (stop !)) (init ! 17 refl (Y.step.typed 𝓛 s u is)) $
-          rewrite ! 17 (λ (v : Val). ‵ (fat full_share (mir_of Y.step) lₛ 0 v)) (ap only (Y.step.tells s (u ∷ [])
+          land ! (within ! (spot 0) (stop !)) (init ! 19 refl (Y.step.typed 𝓛 s u is)) $
+          rewrite ! 19 (λ (v : Val). ‵ (fat full_share (mir_of Y.step) lₛ 0 v)) (ap only (Y.step.tells s (u ∷ [])
           is)) refl $
           -- the record is stored, and the answer
-          assigns ! (of_opd ! (load ! (within ! (spot 0) (fld ! refl (stop !))) (look_in ! 17 (sub ! 1 refl (whole !)))))
-          (from ! (hop ! (look ! 23 refl) (stop !)))
+          assigns ! (of_opd ! (load ! (within ! (spot 0) (fld ! refl (stop !))) (look_in ! 19 (sub ! 1 refl (whole !)))))
+          (within ! (spot 4) (stop !)) (init ! 11 refl (B.typed 𝓛 (Y.step.snd s) _ (Y.step.parts s _ is).1)) $
+          assigns ! (of_opd ! (load ! (within ! (spot 4) (stop !)) (look ! 11 refl)))
+          (from ! (hop ! (look ! 25 refl) (stop !)))
           (store ! 5 refl (B.typed 𝓛 (Y.step.snd s) _ (Y.step.parts s _ is).1)) $
-          assigns ! (of_opd ! (load ! (within ! (spot 0) (fld ! refl (stop !))) (look_in ! 17 (sub ! 0 refl (whole !)))))
-          (itself !) (init ! 25 refl (Y.answer.typed 𝓛 (Y.step.fst s) _ (Y.step.parts s _ is).0)) $
+          assigns ! (of_opd ! (load ! (within ! (spot 0) (fld ! refl (stop !))) (look_in ! 19 (sub ! 0 refl (whole !)))))
+          (itself !) (init ! 27 refl (Y.answer.typed 𝓛 (Y.step.fst s) _ (Y.step.parts s _ is).0)) $
           -- the borrow is closed
           drop ! $
           owned ! P.the_row (Is P.the_row) (B.makes 𝓛) (Y.step.snd s) _ (Y.step.parts s _ is).1 $
           move ! (5 ∷ 0 ∷ 7 ∷ 8 ∷ 9 ∷ []) $ closes-whole ! tt buffer (Y.step.snd s) b o $
-          returns ! (look ! 23 refl) $
-          gone ! 23 refl refl $ gone ! 21 refl refl $ gone ! 19 refl refl $ gone ! 17 refl refl $
-          move ! (8 ∷ []) $ E.frees-extra 𝓛 X bs x $ gone ! 14 refl refl $ gone ! 12 refl refl $ gone ! 10 refl refl $
-          gone ! 8 refl refl $ free0 ! $ keep ! (0 ∷ 1 ∷ 2 ∷ 3 ∷ 4 ∷ []) $
+          returns ! (look ! 25 refl) $
+          gone ! 25 refl refl $ gone ! 23 refl refl $ gone ! 21 refl refl $ gone ! 19 refl refl $
+          move ! (8 ∷ []) $ E.frees-extra 𝓛 X bs x $ gone ! 16 refl refl $ gone ! 14 refl refl $ gone ! 12 refl refl $
+          gone ! 10 refl refl $ gone ! 8 refl refl $ free0 ! $ keep ! (0 ∷ 1 ∷ 2 ∷ 3 ∷ 4 ∷ []) $
           by ! (exits (Y.step.fst s) (Y.step.snd s) es.0 (subst (λ (z : Values X). Y.Gives c h ws.now z
           (Y.step.fst s) (Y.step.snd s) es.0) (E.out-args 1 (κ₁, tt) X x) e) m
-          (Y.step.parts s _ is).0))))))))))))))))))
+          (Y.step.parts s _ is).0)))))))))))))))))))
 
   module _ {M : Type 1} {𝓤 : Ura M} (𝓛 : Logic 𝓤) where
     open 𝓛 use {H}

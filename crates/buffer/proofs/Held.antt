@@ -5,23 +5,26 @@ use Prim.Native.Nat.{ℕ}
 use mathlib.Core.List.{List, [], ◌∷◌}
 use lib.ListN.{length}
 use seplogic.Ra.Ura.{Ura}
-use seplogic.Ra.TreeShare.{full_share}
+use base.Fraction.{full_share}
 use lib.Dec.{T}
 use mir.Syntax.{Lifetime, Ty, ty_ref, erased, mut, deref, field, place, copy, addr_of, aggregate}
 use mir.Syntax.{Body as Code, seq, assign}
 use mir.Val.{Val, vptr, has_ty, WT}
-use base.Fml.{Fml, fsep, feq, fat, froom}
+use base.Fml.{Lft, Fml, fsep, feq, fat, fbor, froom}
 use prog.Wp.{Env, Calls, Loops, spot_of}
 use types.Logic.{Logic}
 use contract.Monad.{fact}
-use types.Kit.{Item, Goal, Post, Seq, Step, step, runs, nth, put, ‵, ◌$◌, move, fsplit, feq_l}
+use types.Kit.{Item, Goal, Post, Seq, Step, step, runs, nth, put, ‵, ◌$◌, move, fsplit, fjoin, feq_l}
+use types.Hole.{Holey}
+use types.SemTy.{Arr, Body}
 use types.Part.{agg, whole, sub, look_in}
 use types.Run.{look, init, stop, hop, fld, load, addr, and_then, no_more, assigns}
 use denote.Builtin.{u32}
 use denote.Exit.{yes}
-use denote.Ref.{Bor}
+use denote.Memory.{mem}
+use denote.Ref.{MutBor}
 use denote.Signature.{plain, mut_ref_to, mut_slice_of}
-use denote.Slice.{slice_val, slice_ty}
+use denote.Slice.{slice_val, slice_ty, finally}
 use denote.Struct.Laws as LL
 use denote.Triple.Clauses.{Ended, Clauses, closing}
 use denote.Triple.Spec.{triple_of}
@@ -51,8 +54,14 @@ abbrev pub B : Plain
 B = struct P.the_type P'.the_laws P'.the_plain P'.the_copy
 
 -- the machine value of the words
-abbrev pub column : Bor (List ℕ) → Val
+abbrev pub column : MutBor (List ℕ) → Val
 column x = slice_val x.ref_ptr (length x.now)
+
+-- what is had of the words x, lent at κ, where they are given up: their last list, and the borrow
+abbrev pub Gone : Lft → MutBor (List ℕ) → List ℕ → Fml
+Gone κ x ws =
+    fsep (finally u32 x.ghost_name ws) (fbor κ (Body (Arr (Holey (mem u32)) (length x.now)) x.ref_ptr.0 x.ref_ptr.1
+    x.ghost_name))
 
 abbrev pub cursor : Plain
 cursor = struct I.the_type I'.the_laws I'.the_plain I'.the_copy
@@ -122,7 +131,7 @@ module _ {M : Type 1} {𝓤 : Ura M} {𝓛 : Logic 𝓤} {K : Type 0} {Γ : List
   open 𝓛 use {H}
 
   pub relends :
-      K → (x : Bor (List ℕ)) (i j k : ℕ) {C : Calls 𝓤 H} {Λ : Loops 𝓤 H} {q : Post 𝓤 H} {E : Env 𝓤 H} {rest : Code}
+      K → (x : MutBor (List ℕ)) (i j k : ℕ) {C : Calls 𝓤 H} {Λ : Loops 𝓤 H} {q : Post 𝓤 H} {E : Env 𝓤 H} {rest : Code}
       {s a b l m n : ℕ} {ℓ : Lifetime} {τ : Ty} → spot_of 𝓤 H E s ≡ (slice_ty (ty_ref ℓ mut τ), l, 0) →
       spot_of 𝓤 H E a ≡ (ty_ref erased mut τ, m, 0) → spot_of 𝓤 H E b ≡ (slice_ty (ty_ref erased mut τ), n, 0) →
       nth 𝓛 i Γ ≡ ‵ (fat full_share (slice_ty (ty_ref ℓ mut τ)) l 0 (column x)) →
@@ -144,8 +153,8 @@ module _ {M : Type 1} {𝓤 : Ura M} {𝓛 : Logic 𝓤} {K : Type 0} {Γ : List
       (fld t refl (stop t))) (look_in t i (found n₃ (sub t 1 refl (whole t))))) (no_more t)))) (within t e (stop t))
       (init t k n₅ typed) $ z)
 
-  -- what is said of the words at a callee's exit, and behind it what is said of the other parameters
+  -- what is had of the words at a callee's exit, and behind it what is had of the other parameters
   pub lasting :
-      K → {G : Goal 𝓤 H} {P Q : Fml} {k l : ℕ} → (k ≡ l → Seq K 𝓛 (‵ P ∷ ‵ Q ∷ Γ) G) →
-      Seq K 𝓛 (‵ (fsep (fsep P (feq ℕ k l)) Q) ∷ Γ) G
-  lasting t f = fsplit t $ fsplit t $ move t (1 ∷ []) $ feq_l t (λ e. f e)
+      K → {G : Goal 𝓤 H} {P R Q : Fml} {k l : ℕ} → (k ≡ l → Seq K 𝓛 (‵ (fsep P R) ∷ ‵ Q ∷ Γ) G) →
+      Seq K 𝓛 (‵ (fsep (fsep (fsep P (feq ℕ k l)) R) Q) ∷ Γ) G
+  lasting t f = fsplit t $ fsplit t $ fsplit t $ move t (1 ∷ []) $ feq_l t (λ e. fjoin t $ f e)

@@ -6,9 +6,10 @@ use Prim.Native.Nat.{ℕ, suc}
 use mathlib.Core.List.{List, [], ◌∷◌}
 use lib.ListN.{length}
 use seplogic.Ra.Ura.{Ura}
-use seplogic.Ra.TreeShare.{full_share}
+use base.Fraction.{full_share}
 use mir.Syntax.{Ty, ty_int, ty_ref, w32, named, erased, mut, deref, field, place, copy, rv_opd, addr_of, aggregate}
-use mir.Syntax.{Body as Code, seq, assign, call, return, value_local, memory_slot, local as loc, Fn, Name}
+use mir.Syntax.{Body as Code, seq, assign, call, return, value_local, memory_slot, local as loc, Fn}
+use prog.Routine.{Callee}
 use mir.Val.{Val, vptr}
 use base.Logic.{SProp, ent, id⊢}
 use base.Fml.{Lft, GName, Share, ftrue, fat, flft}
@@ -16,9 +17,9 @@ use prog.Wp.{Calls, Loops, WpFn, Tables}
 use types.Logic.{Logic}
 use contract.Lifetimes.{Lfts}
 use contract.Monad.{fact}
-use types.Kit.{Item, ‵, raw, some, later, ◌⊛◌, ⋆, ◌$◌, ◌∵◌, !, qed, by, move, keep, use0, use1, use2, use3, split}
+use types.Kit.{Item, ‵, raw, some, later, ◌⊛◌, ⋆, ◌$◌, ◌∵◌, !, qed, by, move, keep, drop, use0, use1, use2, use3, split}
 use types.Kit.{join, pick, rewrite, fsplit, fjoin, suffices, frame, await, done}
-use types.Part.{agg, whole}
+use types.Part.{agg}
 use types.Run.{look, init, forget, stop, load, addr, of_opd, and_then, no_more, assigns, land}
 use types.Run.{returns, enter, alloc1, alloc0, params1, pass1, free1, free0}
 use sound.WpLaws.{FmC, fm_of}
@@ -28,7 +29,7 @@ use denote.Memory.{pointee}
 use denote.Builtin.{u32}
 use denote.Ref.{MutBor}
 use denote.Signature.{plain}
-use denote.Slice.{MutSlice, slice_ty, mut_slice_vals, mut_slice_Tells, mut_slice_Lawful, finally}
+use denote.Slice.{MutSlice, slice_ty, mut_slice_vals, mut_slice_Tells, mut_slice_Lawful}
 use denote.Steps.{only, owned, peeks, heard}
 use denote.Triple.Statement.{Triple}
 use denote.Triple.Call.{calls_at}
@@ -49,14 +50,14 @@ use Rattle.codes.specs.contracts.TokenId as I
 use Rattle.buffer.specs.declared.ParseBuffer.{ParseBuffer}
 use Rattle.buffer.specs.contracts.ParseBuffer as P
 use Rattle.buffer.proofs.ParseBuffer.TheLaws as P'
-use Rattle.buffer.proofs.Held.{buffer, B, cursor, column, relends, lasting}
+use Rattle.buffer.proofs.Held.{buffer, B, cursor, column, Gone, relends, lasting}
 use Rattle.buffer.proofs.Held.{Way, passed, passed-clauses, Passed, lent, lent-clauses, Lent}
 
 -- the type of the local that holds the reference
 abbrev ref-type : Ty
 ref-type = ty_ref erased mut (pointee (P.the_row).written)
 
-module _ (X : Extra) (Y : Way X) (#core : Name) where
+module _ (X : Extra) (Y : Way X) (#core : Callee) where
   -- the n-th local behind the parameters
   abbrev at : ℕ → ℕ
   at n = suc (suc (suc (suc (E.beyond X n))))
@@ -77,6 +78,8 @@ module _ (X : Extra) (Y : Way X) (#core : Name) where
   function = record {
     lifetimes = 1;
     outlives = [];
+    ty_params = [];
+    givens = 0;
     params = E.beyond X 3;
     locals =
         loc (mir_of Y.step) value_local ∷ loc (slice_ty (ty_ref (named 0) mut (ty_int w32))) value_local
@@ -171,9 +174,9 @@ module _ (X : Extra) (Y : Way X) (#core : Name) where
     exits :
         (r : Y.answer.row.Denot) (p : ParseBuffer) (ws' : List ℕ) → Y.Gives c h ws.now x r p ws' →
         length ws' ≡ length ws.now → Is Y.step.row (Y.step.make r p) (val_of Y.step r p ∷ []) →
-        ent 𝓤 (⋆ 𝓛 (toks ∷ ‵ (finally u32 ws.name ws') ∷ [])) (Post (val_of Y.step r p))
+        ent 𝓤 (⋆ 𝓛 (toks ∷ ‵ (Gone κ₁ ws ws') ∷ [])) (Post (val_of Y.step r p))
     exits r p ws' e m is =
-        qed 𝓛 (toks ∷ ‵ (finally u32 ws.name ws') ∷ []) ∵
+        qed 𝓛 (toks ∷ ‵ (Gone κ₁ ws ws') ∷ []) ∵
         suffices ! _ (ends_at 𝓛 (passed X Y) stayed (passed-clauses X Y 𝓤) bound (val_of Y.step r p)
         (Y.step.make r p) (ws', (tt, (tt, E.lasts 1 κs X a))) (m, (tt, (tt, E.fits 1 κs X a)))) $
         says ! (Y.step.made r p (λ r' p'. Y.Gives c h ws.now x r' p' ws') e) $ frame ! $
@@ -220,11 +223,14 @@ module _ (X : Extra) (Y : Way X) (#core : Name) where
           (and_then ! (local ! 17 refl) (E.reads-extra 𝓛 2 (lfts lₜ ν γ) 4 3 X bs x refl (E.spots 𝓤 H X bs
           ((mir_of Y.step, i₀) ∷ (slice_ty (ty_ref (named 0) mut (ty_int w32)), i₁) ∷ (cursor.mir, i₂) ∷ (P'.mir, i₃)
           ∷ []) (Temps lₜ lₐ lᵣ l₁ l₂ l)))))) (λ u.
-          use1 𝓛 (later (some (λ (r : Y.answer.row.Denot). ((‵ (flft (ν ∷ []) full_share) ⊛ toks) ⊛ ‵ (Y.answer.row.own_val r (u ∷ []))) ⊛ raw (ensured 𝓛 (lent X Y) (lent-clauses X Y 𝓤) (lfts lₜ ν γ) (given lₜ ν γ) tt
-          r)))) (id⊢ 𝓤 _) $ await ! tt $ pick ! (λ r. split ! $ move ! (1 ∷ []) $
+          use1 𝓛 (later (some (λ (r : Y.answer.row.Denot). ((‵ (flft (ν ∷ []) full_share) ⊛ toks)
+          ⊛ ‵ (Y.answer.row.own_val r (u ∷ []))) ⊛ raw (ensured 𝓛 (lent X Y) (lent-clauses X Y 𝓤) (lfts lₜ ν γ)
+          (given lₜ ν γ) tt r)))) (id⊢ 𝓤 _) $ await ! tt $ pick ! (λ r. split ! $ move ! (1 ∷ []) $
           use1 𝓛 (some (λ (es : Last lₜ ν γ). ‵ (lasts (lent X Y) (lfts lₜ ν γ) (given lₜ ν γ) es) ⊛ raw (fact 𝓤 (Said
           lₜ ν γ r es)))) (id⊢ 𝓤 _) $ pick ! (λ es. split ! $ move ! (1 ∷ []) $ heard ! (Said lₜ ν γ r es) (λ e.
-          fsplit ! $ move ! (1 ∷ []) $ lasting ! (λ m. move ! (3 ∷ []) $ split ! $ split ! $
+          -- the borrow of the record is let go
+          fsplit ! $ fsplit ! $ move ! (1 ∷ []) $ drop ! $
+          move ! (1 ∷ []) $ lasting ! (λ m. move ! (3 ∷ []) $ split ! $ split ! $
           -- [its lifetime's token; the words'; the answer; the words' last list; …; res; what the plain parameters own;
           -- the loan; the further ones' locals; …]
           move ! (0 ∷ 7 ∷ 5 ∷ []) $ use3 𝓛 (later (‵ (Cell buffer full_share es.0 lₜ 0) ⊛ ‵ (Own buffer es.0)))

@@ -1,6 +1,8 @@
 // The node count and the open list in one record, which is lent to append and append_item, after the Rust's &mut
 // ParseBuffer. Each calls a function with the record by value, above the function of crate nodes, and stores what that
 // leaves. A caller that has the record by value uses the functions at the end.
+#![tactic(auto)]
+
 ghost use Rattle.std.specs.Prelude.{◌≡◌, ◌≤◌};
 ghost use Rattle.rules.specs.Codes.Limit as Limits;
 ghost use Rattle.nodes.specs.Answer.{WithinSlots, past};
@@ -10,21 +12,21 @@ use codes::{Parsed, TokenId};
 use nodes::{ActiveList, Listed};
 
 // How many nodes there are, and the list whose end is yet to come.
-#[derive(Drop)]
+#[derive(Clone, Copy)]
 pub struct ParseBuffer {
     pub count: u32,
     pub list: ActiveList,
 }
 
 // What is answered for a node, and the record then.
-#[derive(Drop)]
+#[derive(Clone, Copy)]
 pub struct Appended {
     pub reply: Parsed,
     pub buffer: ParseBuffer,
 }
 
 // What is answered for an item, and the record then.
-#[derive(Drop)]
+#[derive(Clone, Copy)]
 pub struct AppendedItem {
     pub reply: Listed,
     pub buffer: ParseBuffer,

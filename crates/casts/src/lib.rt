@@ -1,5 +1,7 @@
 // What holds a type and no expression, after parse_singular_expression and parse_unary_expression of the Rust's
 // parser.rs: `cast`, `as` and `|:`.
+#![tactic(auto)]
+
 ghost use Rattle.std.specs.Prelude.{◌+◌, ◌≤◌, ◌<◌, length};
 ghost use Rattle.rules.specs.Codes.Limit as Limits;
 ghost use Rattle.rules.specs.Reading.{loop};

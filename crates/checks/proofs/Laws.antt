@@ -30,7 +30,6 @@ use Rattle.rules.specs.Columns.{Nodes}
 use Rattle.rules.specs.Places.{place_of, input, Placed}
 use Rattle.rules.specs.Words.{word_kind, word_load}
 use Rattle.rules.specs.Demand as Demand
-use Rattle.rules.proofs.Demand.{types}
 
 -- one check, and another
 module _ (a b : Checked) where

@@ -1,4 +1,6 @@
 // What an entry is checked for before it parses, in document 01's order. Any input may be asked about.
+#![tactic(auto)]
+
 ghost use Rattle.std.specs.Prelude.{◌≡◌, ◌≤◌, length};
 ghost use Rattle.rules.specs.Codes.Limit as Limits;
 ghost use Rattle.codes.specs.Answer.{row};
@@ -9,7 +11,7 @@ use codes::{BaseToken, Limit, Refusal, TokenId, ValueTypeKeyword};
 use kinds::tokens_pass;
 
 // Whether the input passed some checks, or the number and start of the first refusal.
-#[derive(Drop)]
+#[derive(Clone, Copy)]
 pub enum Checked {
     Passed,
     Failed { number: u32, start: TokenId },

@@ -1,5 +1,5 @@
 // The limits: MANUAL.md, Limits.
-#[derive(Drop)]
+#[derive(Clone, Copy)]
 pub struct Limit(pub u32);
 
 impl Limit {

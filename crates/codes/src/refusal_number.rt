@@ -1,5 +1,5 @@
 // The refusals by number: MANUAL.md, Refusals.
-#[derive(Drop)]
+#[derive(Clone, Copy)]
 pub struct Refusal(pub u32);
 
 impl Refusal {

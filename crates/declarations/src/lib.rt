@@ -1,6 +1,8 @@
 // Constants, structs and words, after parse_constant_declaration to parse_struct_members and parse_member of the Rust's
 // parser.rs. The caller has taken the declaring token. In each, `unused` is the nesting (document 01's term) that is left
 // for the types and expressions inside.
+#![tactic(auto)]
+
 ghost use Rattle.std.specs.Prelude.{◌≡◌, ◌+◌, ◌≤◌};
 ghost use Rattle.rules.specs.Codes.Limit as Limits;
 ghost use Rattle.rules.specs.Words.{words};

@@ -5,13 +5,14 @@
 //
 // TEXT and the words are those of crate row_text, ENTRY and the settings those of question.rt. The frame is kept where
 // every slot below the given node count and from the replied one on holds what it held before the call (crate node_slots).
+#![tactic(auto)]
+
 ghost use Rattle.std.specs.Prelude.{◌≤◌, ◌≡◌, length};
 ghost use Rattle.node_slots.specs.SlotLimits as SlotLimits;
 
 mod question;
 
 use codes::{Parsed, TokenId};
-use libc::{STDIN_FILENO, STDOUT_FILENO};
 use node_slots::SLOTS;
 use penne::{
     parse_constant_declaration, parse_expression, parse_struct_declaration, parse_type,
@@ -19,6 +20,11 @@ use penne::{
 };
 use question::{Entry, Question, Row};
 use row_text::TOKENS;
+
+// The file numbers of standard input and output.
+const STDIN: i32 = 0;
+
+const STDOUT: i32 = 1;
 
 // What the entry replies to the question, with these node kinds and loads lent to it.
 fn ask(
@@ -74,9 +80,9 @@ fn show(
     if node_slots::kinds_kept(node_kinds, given, count)
         && node_slots::loads_kept(node_loads, given, count)
     {
-        io::write_all(STDOUT_FILENO, b", frame kept");
+        io::write_all(STDOUT, b", frame kept");
     } else {
-        io::write_all(STDOUT_FILENO, b", FRAME BROKEN");
+        io::write_all(STDOUT, b", FRAME BROKEN");
     }
     node_slots::print_appended(node_kinds, node_loads, given, count);
 }
@@ -112,12 +118,12 @@ fn answer(
 ) {
     let row = question::read_row(line, kinds, types);
     if !row.good {
-        io::write_all(STDOUT_FILENO, b"bad line\n");
+        io::write_all(STDOUT, b"bad line\n");
         return;
     }
     let text = row.text;
-    io::write_all(STDOUT_FILENO, &line[..text]);
-    io::write_all(STDOUT_FILENO, b": ");
+    io::write_all(STDOUT, &line[..text]);
+    io::write_all(STDOUT, b": ");
     show_row(row, kinds, types, node_kinds, node_loads);
 }
 
@@ -132,8 +138,8 @@ fn show_line(
         answer(line, kinds, types, node_kinds, node_loads);
         return;
     }
-    io::write_all(STDOUT_FILENO, line);
-    io::write_all(STDOUT_FILENO, b"\n");
+    io::write_all(STDOUT, line);
+    io::write_all(STDOUT, b"\n");
 }
 
 fn show_lines(
@@ -161,9 +167,9 @@ fn main() {
     let mut node_kinds = [0u8; SLOTS];
     let mut node_loads = [0u32; SLOTS];
     let mut input = [0u8; INPUT];
-    let length = io::read_full(STDIN_FILENO, &mut input);
+    let length = io::read_full(STDIN, &mut input);
     if length == input.len() {
-        io::write_all(STDOUT_FILENO, b"bad file\n");
+        io::write_all(STDOUT, b"bad file\n");
         return;
     }
     show_lines(

@@ -25,7 +25,7 @@ const MOST_SLOTS: u32 = SLOTS as u32;
 
 const MOST_TOKENS: u32 = TOKENS as u32;
 
-#[derive(Drop)]
+#[derive(Clone, Copy)]
 pub enum Entry {
     Expression,
     Type,
@@ -35,7 +35,7 @@ pub enum Entry {
 }
 
 // What an entry is given besides the columns.
-#[derive(Drop)]
+#[derive(Clone, Copy)]
 pub struct Question {
     pub entry: Entry,
     pub cursor: u32,
@@ -46,7 +46,7 @@ pub struct Question {
 }
 
 // What a line says: where its text ends, the question, and how long each column is; or that the line is bad.
-#[derive(Drop)]
+#[derive(Clone, Copy)]
 pub struct Row {
     pub good: bool,
     pub text: usize,
@@ -58,11 +58,11 @@ pub struct Row {
 }
 
 // An entry and the place after its name; where none was found, the place that was given.
-#[derive(Drop)]
+#[derive(Clone, Copy)]
 struct NamedEntry(Entry, usize);
 
 // A question and the place after it.
-#[derive(Drop)]
+#[derive(Clone, Copy)]
 struct AskedQuestion {
     good: bool,
     question: Question,
@@ -70,7 +70,7 @@ struct AskedQuestion {
 }
 
 // The lengths of columns and the place after them.
-#[derive(Drop)]
+#[derive(Clone, Copy)]
 struct Sizes {
     good: bool,
     slots: u32,

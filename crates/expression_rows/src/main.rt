@@ -1,11 +1,17 @@
 // The rows of standard input by parse_expression. For each row: its text, the reply, and the nodes up to the count.
 // Crate row_text says how a row is written. A line that is empty or begins with `#` is printed as it is.
+#![tactic(auto)]
+
 ghost use Rattle.std.specs.Prelude.{◌≤◌};
 ghost use Rattle.row_text.specs.LineLimits as LineLimits;
 
 use codes::{Limit, TokenId};
-use libc::{STDIN_FILENO, STDOUT_FILENO};
 use row_text::TOKENS;
+
+// The file numbers of standard input and output.
+const STDIN: i32 = 0;
+
+const STDOUT: i32 = 1;
 
 // The slots, of which a row says how many are lent.
 const SLOTS: usize = 512;
@@ -35,8 +41,8 @@ fn show(
         0,
         Limit::Nesting,
     );
-    io::write_all(STDOUT_FILENO, text);
-    io::write_all(STDOUT_FILENO, b": ");
+    io::write_all(STDOUT, text);
+    io::write_all(STDOUT, b": ");
     let count = show::print_reply(reply);
     show::print_words(node_words, count as usize);
 }
@@ -47,7 +53,7 @@ fn show_row(line: &[u8]) {
     let mut types = [0u8; TOKENS];
     let row = row_text::read_row(line, &mut kinds, &mut types);
     if !row.good {
-        io::write_all(STDOUT_FILENO, b"bad line\n");
+        io::write_all(STDOUT, b"bad line\n");
         return;
     }
     let text = row.text;
@@ -61,8 +67,8 @@ fn show_line(line: &[u8]) {
         show_row(line);
         return;
     }
-    io::write_all(STDOUT_FILENO, line);
-    io::write_all(STDOUT_FILENO, b"\n");
+    io::write_all(STDOUT, line);
+    io::write_all(STDOUT, b"\n");
 }
 
 fn show_lines(input: &[u8]) {
@@ -76,9 +82,9 @@ fn show_lines(input: &[u8]) {
 
 fn main() {
     let mut input = io::large_buffer();
-    let length = io::read_full(STDIN_FILENO, &mut input);
+    let length = io::read_full(STDIN, &mut input);
     if length == input.len() {
-        io::write_all(STDOUT_FILENO, b"bad file\n");
+        io::write_all(STDOUT, b"bad file\n");
         return;
     }
     show_lines(&input[..length]);

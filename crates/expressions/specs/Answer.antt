@@ -11,7 +11,8 @@ use Rattle.rules.specs.Reading.{Rule, Row, Step, ◌>>=◌, pure, choose}
 use Rattle.rules.specs.Lists.{Ends}
 use Rattle.rules.specs.Words.{Words, words}
 use Rattle.rules.specs.Types.{type}
-use Rattle.rules.specs.Expressions.{prefix, closed, item_end, list_item, step, stepped, advanced, field, unary, singular}
+use Rattle.rules.specs.Expressions.{prefix, closed, item_end, list_item, step, stepped, advanced, field, unary}
+use Rattle.rules.specs.Expressions.{singular}
 use Rattle.rules.specs.Expressions.{product, sum, expression}
 
 -- the place of a unary's operand, by the token at c

@@ -1,6 +1,8 @@
 // Expressions and references, after parse_expression to parse_deref_steps_list of the Rust's parser.rs: the readers that
-// call each other. Most have short forms of the Rust's names, since what they are called is joined to a name of their
-// common proof. In each, `unused` is the nesting (document 01's term) that is left for what is inside.
+// call each other. Most have short forms of the Rust's names, since a reader's name begins the name of each of its goals.
+// In each, `unused` is the nesting (document 01's term) that is left for what is inside.
+#![tactic(auto)]
+
 ghost use Rattle.std.specs.Prelude.{◌≡◌, ◌+◌, ◌≤◌, length, eqb, false};
 ghost use Rattle.rules.specs.Codes.Limit as Limits;
 ghost use Rattle.rules.specs.Codes.BaseToken as Token;
@@ -87,7 +89,7 @@ fn finish_unary(
 
 // An expression, one level further in. A number with nothing after it is read here: it is the usual argument, and needs
 // none of the readers below.
-#[cycle(addition_advance_deref_steps_field_group_item_multiplication_next_field_parse_expression_primary_reference_rest_of_fields_rest_of_list_singular_step_unary)]
+#[cycle(expression)]
 pub fn parse_expression(
     kinds: &[u8],
     types: &[u8],
@@ -121,7 +123,7 @@ pub fn parse_expression(
 // Rust: parse_addition. Products joined by `+` or `-`, and what may follow them. The Rust reads on after a bitwise
 // operator or a shift in parse_rest_of_bitwise_expression and parse_rest_of_bitshift_operation; here the pending operator
 // says so.
-#[cycle(addition_advance_deref_steps_field_group_item_multiplication_next_field_parse_expression_primary_reference_rest_of_fields_rest_of_list_singular_step_unary)]
+#[cycle(expression)]
 fn addition(
     kinds: &[u8],
     types: &[u8],
@@ -177,7 +179,7 @@ fn addition(
 }
 
 // Rust: parse_multiplication. Singulars joined by `*`, `/` or `%`; or, if bare, a unary only.
-#[cycle(addition_advance_deref_steps_field_group_item_multiplication_next_field_parse_expression_primary_reference_rest_of_fields_rest_of_list_singular_step_unary)]
+#[cycle(expression)]
 fn multiplication(
     kinds: &[u8],
     types: &[u8],
@@ -236,7 +238,7 @@ fn multiplication(
 }
 
 // Rust: parse_singular_expression. A unary, with `cast` before and `as` after it; or, if bare, a unary only.
-#[cycle(addition_advance_deref_steps_field_group_item_multiplication_next_field_parse_expression_primary_reference_rest_of_fields_rest_of_list_singular_step_unary)]
+#[cycle(expression)]
 fn singular(
     kinds: &[u8],
     types: &[u8],
@@ -271,7 +273,7 @@ fn singular(
 
 // Rust: parse_unary_expression. A size, a length, or a primary with `!` or `-` before it. A decimal number is the usual
 // operand, and is read without the search for what opens a primary.
-#[cycle(addition_advance_deref_steps_field_group_item_multiplication_next_field_parse_expression_primary_reference_rest_of_fields_rest_of_list_singular_step_unary)]
+#[cycle(expression)]
 fn unary(
     kinds: &[u8],
     types: &[u8],
@@ -308,7 +310,7 @@ fn unary(
 }
 
 // Rust: parse_primary_expression. A primary; or, after a pipe, a reference.
-#[cycle(addition_advance_deref_steps_field_group_item_multiplication_next_field_parse_expression_primary_reference_rest_of_fields_rest_of_list_singular_step_unary)]
+#[cycle(expression)]
 fn primary(
     kinds: &[u8],
     types: &[u8],
@@ -341,7 +343,7 @@ fn primary(
 }
 
 // An expression in parentheses, of which the left one is taken.
-#[cycle(addition_advance_deref_steps_field_group_item_multiplication_next_field_parse_expression_primary_reference_rest_of_fields_rest_of_list_singular_step_unary)]
+#[cycle(expression)]
 fn group(
     kinds: &[u8],
     types: &[u8],
@@ -374,7 +376,7 @@ fn group(
 }
 
 // Rust: parse_reference. A name, which is taken, and its steps; after a pointer, `..` and an expression may follow.
-#[cycle(addition_advance_deref_steps_field_group_item_multiplication_next_field_parse_expression_primary_reference_rest_of_fields_rest_of_list_singular_step_unary)]
+#[cycle(expression)]
 fn reference(
     kinds: &[u8],
     types: &[u8],
@@ -409,7 +411,7 @@ fn reference(
 }
 
 // `..` and an expression, if they follow. The Rust has this at the end of parse_primary_expression.
-#[cycle(addition_advance_deref_steps_field_group_item_multiplication_next_field_parse_expression_primary_reference_rest_of_fields_rest_of_list_singular_step_unary)]
+#[cycle(expression)]
 fn advance(
     kinds: &[u8],
     types: &[u8],
@@ -446,7 +448,7 @@ fn advance(
 
 // Arguments or elements, whose opening token is taken. The Rust has a loop for each, in parse_rest_of_arguments and
 // parse_primary_expression.
-#[cycle(addition_advance_deref_steps_field_group_item_multiplication_next_field_parse_expression_primary_reference_rest_of_fields_rest_of_list_singular_step_unary)]
+#[cycle(expression)]
 fn rest_of_list(
     kinds: &[u8],
     types: &[u8],
@@ -496,7 +498,7 @@ fn rest_of_list(
 }
 
 // An expression with a comma or the closing token after it, or the closing token.
-#[cycle(addition_advance_deref_steps_field_group_item_multiplication_next_field_parse_expression_primary_reference_rest_of_fields_rest_of_list_singular_step_unary)]
+#[cycle(expression)]
 fn item(
     kinds: &[u8],
     types: &[u8],
@@ -534,7 +536,7 @@ fn item(
 }
 
 // The fields of the struct or word at `name`, whose opening brace is taken. Rust: parse_rest_of_structural.
-#[cycle(addition_advance_deref_steps_field_group_item_multiplication_next_field_parse_expression_primary_reference_rest_of_fields_rest_of_list_singular_step_unary)]
+#[cycle(expression)]
 fn rest_of_fields(
     kinds: &[u8],
     types: &[u8],
@@ -581,7 +583,7 @@ fn rest_of_fields(
 }
 
 // A field with a comma or the closing brace after it, or the closing brace.
-#[cycle(addition_advance_deref_steps_field_group_item_multiplication_next_field_parse_expression_primary_reference_rest_of_fields_rest_of_list_singular_step_unary)]
+#[cycle(expression)]
 fn next_field(
     kinds: &[u8],
     types: &[u8],
@@ -609,7 +611,7 @@ fn next_field(
 }
 
 // A field: a name, and a colon with an expression or nothing; and what stands after it.
-#[cycle(addition_advance_deref_steps_field_group_item_multiplication_next_field_parse_expression_primary_reference_rest_of_fields_rest_of_list_singular_step_unary)]
+#[cycle(expression)]
 fn field(
     kinds: &[u8],
     types: &[u8],
@@ -649,7 +651,7 @@ fn field(
 }
 
 // Rust: parse_deref_steps_list. A reference whose name is taken: its steps and its nodes.
-#[cycle(addition_advance_deref_steps_field_group_item_multiplication_next_field_parse_expression_primary_reference_rest_of_fields_rest_of_list_singular_step_unary)]
+#[cycle(expression)]
 fn deref_steps(
     kinds: &[u8],
     types: &[u8],
@@ -697,7 +699,7 @@ fn deref_steps(
 }
 
 // A step `[expression]` or `.name`, if one follows.
-#[cycle(addition_advance_deref_steps_field_group_item_multiplication_next_field_parse_expression_primary_reference_rest_of_fields_rest_of_list_singular_step_unary)]
+#[cycle(expression)]
 fn step(
     kinds: &[u8],
     types: &[u8],

@@ -1,5 +1,6 @@
 -- Kinds as one 64-bit word, and the test of a word.
-use Rattle.std.specs.Prelude.{◌≡◌, ℕ, ◌+◌, ◌-◌, ◌*◌, ◌%◌, ◌^◌, Bool, true, ◌&&◌, List, [], ◌∷◌, length, take, ◌==◌, bit_and, bit_or, nat_eq}
+use Rattle.std.specs.Prelude.{◌≡◌, ℕ, ◌+◌, ◌-◌, ◌*◌, ◌%◌, ◌^◌, Bool, true, ◌&&◌}
+use Rattle.std.specs.Prelude.{List, [], ◌∷◌, length, take, ◌==◌, bit_and, bit_or, nat_eq}
 use Rattle.kinds.specs.Above.{Most, none_above}
 
 -- how many kinds a word has

@@ -1,6 +1,8 @@
 // Whether a kind of a row is above a limit, or a value type above another. Eight kinds are taken as one 64-bit word, the
 // rest of the row by bytes; what a word is, and its test, stands in specs/Words.antt. Of a long row the value types are
 // known by their largest, of a short one as kinds are.
+#![tactic(auto)]
+
 ghost use Rattle.std.specs.Prelude.{◌≡◌, ◌+◌, ◌*◌, ◌<◌, ◌≤◌, max, ◌&&◌, [], ◌∷◌, length, take, drop};
 ghost use Rattle.kinds.specs.Above.{Most, none_above, Alike};
 ghost use Rattle.kinds.specs.Words as Test;

@@ -10,7 +10,7 @@ use codes::{BaseToken, Parsed, TokenId};
 use tokens::{Consumed, Taken};
 
 // A refusal's five numbers. An acceptance has number 0 and its root, or a token's kind, as start and end.
-#[derive(Drop)]
+#[derive(Clone, Copy)]
 pub struct Numbers {
     pub number: u32,
     pub start: u32,

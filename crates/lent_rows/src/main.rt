@@ -3,17 +3,23 @@
 // For each row of standard input: its text, and for every token its kind and what a list's end there answers, by the
 // reader; `differs` follows where the core answers otherwise. Crate row_text says how a row is written; in the place of
 // SLOTS it has the kind that closes the list. Then the list, with too few slots and with as many as it needs.
+#![tactic(auto)]
+
 ghost use Rattle.std.specs.Prelude.{◌≡◌, ◌+◌, ◌≤◌, length};
 ghost use Rattle.row_text.specs.LineLimits as LineLimits;
 
 use answers::Numbers;
 use codes::{Parsed, TokenId};
-use libc::{STDIN_FILENO, STDOUT_FILENO};
 use row_text::TOKENS;
 use tokens::Taken;
 
 mod answers;
 mod lists;
+
+// The file numbers of standard input and output.
+const STDIN: i32 = 0;
+
+const STDOUT: i32 = 1;
 
 // The last of the kinds of tokens.
 const LAST_KIND: usize = 61;
@@ -29,21 +35,21 @@ const UNUSED: u32 = 255;
 // Says so where an answer is not the core's.
 fn compare(ours: Numbers, core: Numbers) {
     if !answers::same(ours, core) {
-        io::write_all(STDOUT_FILENO, b" differs");
+        io::write_all(STDOUT, b" differs");
     }
 }
 
 fn print_number(number: u32) {
-    io::write_all(STDOUT_FILENO, b" ");
-    io::print_decimal(STDOUT_FILENO, number as u64);
+    io::write_all(STDOUT, b" ");
+    io::print_decimal(STDOUT, number as u64);
 }
 
 // `ok` and the cursor, or `no` and number, start, end and cursor.
 fn print_answer(answer: Numbers) {
     if answer.number == 0 {
-        io::write_all(STDOUT_FILENO, b" ok");
+        io::write_all(STDOUT, b" ok");
     } else {
-        io::write_all(STDOUT_FILENO, b" no");
+        io::write_all(STDOUT, b" no");
         print_number(answer.number);
         print_number(answer.start);
         print_number(answer.end);
@@ -54,11 +60,11 @@ fn print_answer(answer: Numbers) {
 // A token's kind and an answer, after what stands before the first token or between two.
 fn print_token(first: bool, kind: u8, ended: Numbers) {
     if first {
-        io::write_all(STDOUT_FILENO, b": ");
+        io::write_all(STDOUT, b": ");
     } else {
-        io::write_all(STDOUT_FILENO, b", ");
+        io::write_all(STDOUT, b", ");
     }
-    io::print_decimal(STDOUT_FILENO, kind as u64);
+    io::print_decimal(STDOUT, kind as u64);
     print_answer(ended);
 }
 
@@ -93,7 +99,7 @@ fn show_tokens<'a>(kinds: &'a [u8], types: &'a [u8], closing: u8)
     while (at as usize) < kinds.len() {
         at = show_token(kinds, types, at, closing);
     }
-    io::write_all(STDOUT_FILENO, b"\n");
+    io::write_all(STDOUT, b"\n");
 }
 
 // The first tokens of the two columns.
@@ -114,21 +120,21 @@ fn show_row(line: &[u8]) {
     let tokens = row.tokens;
     let closing = row.slots;
     if !row.good {
-        io::write_all(STDOUT_FILENO, b"bad line\n");
+        io::write_all(STDOUT, b"bad line\n");
         return;
     }
     if closing > LAST_KIND {
-        io::write_all(STDOUT_FILENO, b"bad kind\n");
+        io::write_all(STDOUT, b"bad kind\n");
         return;
     }
-    io::write_all(STDOUT_FILENO, &line[..text]);
+    io::write_all(STDOUT, &line[..text]);
     show(&kinds, &types, tokens, closing as u8);
 }
 
 fn show_line(line: &[u8]) {
     if line.len() == 0 || line[0] == b'#' {
-        io::write_all(STDOUT_FILENO, line);
-        io::write_all(STDOUT_FILENO, b"\n");
+        io::write_all(STDOUT, line);
+        io::write_all(STDOUT, b"\n");
         return;
     }
     show_row(line);
@@ -145,7 +151,7 @@ fn show_lines(input: &[u8]) {
 
 // A list's reply and its nodes.
 fn print_list(text: &[u8], reply: Parsed, node_words: &[u32]) {
-    io::write_all(STDOUT_FILENO, text);
+    io::write_all(STDOUT, text);
     let count = show::print_reply(reply);
     show::print_words(node_words, count as usize);
 }
@@ -175,12 +181,12 @@ fn show_lists() {
 
 fn main() {
     let mut input = io::large_buffer();
-    let length = io::read_full(STDIN_FILENO, &mut input);
+    let length = io::read_full(STDIN, &mut input);
     if length == input.len() {
-        io::write_all(STDOUT_FILENO, b"bad file\n");
+        io::write_all(STDOUT, b"bad file\n");
         return;
     }
     show_lines(&input[..length]);
-    io::write_all(STDOUT_FILENO, b"\n# Three items, with 0 to 7 slots\n");
+    io::write_all(STDOUT, b"\n# Three items, with 0 to 7 slots\n");
     show_lists();
 }

@@ -8,7 +8,6 @@ use lib.Dec.{eqb, ltb}
 use lib.ListN.{length, get_or}
 use borrow.Author.Tests.{lt-ltb, le-ltb, eq-eqb, ne_eqb, eqb-true, eqb-false}
 use Rattle.lines.specs.declared.Digits.{Digits}
-use Rattle.lines.specs.declared.Decimal.{Decimal}
 use Rattle.lines.specs.Line.{Spaces, is_row, space, after_byte, name_from}
 use Rattle.lines.specs.Numbers.{digit_of, digits_from, number_at}
 

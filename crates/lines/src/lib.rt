@@ -1,4 +1,6 @@
 // Places in a line of text, and the numbers and names that stand there, for the test programs.
+#![tactic(auto)]
+
 ghost use Rattle.std.specs.Prelude.{ℕ, ◌+◌, ◌-◌, ◌≤◌, ◌<◌, ◌≡◌, length, get_or};
 ghost use Rattle.lines.specs.Line.{Within, Spaces, is_row, space, after_byte, name_from};
 ghost use Rattle.lines.specs.Numbers.{Numbered, digit_of, digits_from, number_at};
@@ -7,7 +9,7 @@ ghost use Rattle.lines.specs.Numbers.{Numbered, digit_of, digits_from, number_at
 const BASE: u64 = 10;
 
 // A number and the place after it; 0 where none was found.
-#[derive(Drop)]
+#[derive(Clone, Copy)]
 pub struct Decimal {
     pub found: bool,
     pub value: u32,
@@ -15,7 +17,7 @@ pub struct Decimal {
 }
 
 // A number of any size, and the place after it.
-#[derive(Drop)]
+#[derive(Clone, Copy)]
 struct Digits {
     value: u64,
     next: usize,

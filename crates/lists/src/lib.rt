@@ -1,5 +1,7 @@
 // Lists with commas: arguments, fields and elements, after parse_rest_of_arguments, parse_rest_of_structural and the
 // brackets of parse_primary_expression in the Rust's parser.rs.
+#![tactic(auto)]
+
 ghost use Rattle.std.specs.Prelude.{◌≡◌, ◌+◌, ◌≤◌};
 ghost use Rattle.rules.specs.Codes.Limit as Limits;
 ghost use Rattle.rules.specs.Words.{words};
@@ -14,14 +16,14 @@ use references::push_name;
 use tokens::{Consumed, consume, consume_optional};
 
 // What a list of expressions belongs to: a call of a name or of a Builtin, or an array.
-#[derive(Drop)]
+#[derive(Clone, Copy)]
 pub enum Owner {
     Call { name: TokenId, builtin: u32 },
     Elements,
 }
 
 // A turn of a list: the list with the number of its items, open or whole, or a refusal.
-#[derive(Drop)]
+#[derive(Clone, Copy)]
 pub enum Turn {
     More {
         list: ActiveList,

@@ -1,4 +1,6 @@
 // Literals, after parse_primary_expression of the Rust's parser.rs.
+#![tactic(auto)]
+
 ghost use Rattle.std.specs.Prelude.{◌≡◌, ◌+◌, ◌≤◌, length};
 ghost use Rattle.rules.specs.Codes.Limit as Limits;
 ghost use Rattle.codes.specs.Answer.{parsed};

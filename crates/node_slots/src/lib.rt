@@ -1,10 +1,11 @@
 // The node columns before and after an entry: the slots are filled with what no entry writes, so that a slot that was
 // written is told from one that was not.
+#![tactic(auto)]
+
 ghost use Rattle.std.specs.Prelude.{◌≤◌, ◌<◌, min, ◌≡◌, length};
 ghost use Rattle.node_slots.specs.Kept.{old_kind, old_load, Filled, kept_slot, kept_from, appended_in};
 ghost use Rattle.node_slots.specs.SlotLimits as SlotLimits;
 
-use libc::STDOUT_FILENO;
 use numbers::{least, wide};
 
 // The slots of a column: one more than an entry takes.
@@ -17,6 +18,9 @@ const KINDS: usize = 128;
 
 // The loads that slots hold before a call, from this one on: above any token number, node number, count or code.
 const FIRST_LOAD: u32 = 4_000_000_000;
+
+// The file number of standard output.
+const STDOUT: i32 = 1;
 
 // So many nodes are printed one by one; of more than these, their number and a checksum.
 const MOST_PRINTED: usize = 512;
@@ -141,11 +145,11 @@ fn print_nodes(node_kinds: &[u8], node_loads: &[u32]) {
         show::print_nodes(node_kinds, node_loads, count);
         return;
     }
-    io::write_all(STDOUT_FILENO, b", nodes ");
-    io::print_decimal(STDOUT_FILENO, count as u64);
-    io::write_all(STDOUT_FILENO, b", checksum ");
-    io::print_decimal(STDOUT_FILENO, checksum(node_kinds, node_loads));
-    io::write_all(STDOUT_FILENO, b"\n");
+    io::write_all(STDOUT, b", nodes ");
+    io::print_decimal(STDOUT, count as u64);
+    io::write_all(STDOUT, b", checksum ");
+    io::print_decimal(STDOUT, checksum(node_kinds, node_loads));
+    io::write_all(STDOUT, b"\n");
 }
 
 // The nodes from the given count up to the replied one, as far as both columns have slots. The result is how many there

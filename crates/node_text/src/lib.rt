@@ -1,5 +1,7 @@
 // The text that penne-nodes writes, put into a buffer from a place on. Each function returns the place after what it has
 // put there, and keeps what stands before and after it.
+#![tactic(auto)]
+
 ghost use Rattle.std.specs.Prelude.{◌≤◌, ◌+◌, ◌*◌, [], ◌∷◌, length};
 ghost use Rattle.codes.specs.Answer.{nodes};
 ghost use Rattle.node_text.specs.Text.{decimal, byte_number, word, two, line, lines, bad_file};

@@ -1,5 +1,5 @@
 -- The answers of the code as the rules give them.
-use Rattle.std.specs.Prelude.{ℕ, ◌+◌, ◌≤◌, max, List, ◌≡◌, length}
+use Rattle.std.specs.Prelude.{ℕ, ◌+◌, ◌≤◌, max, List, length}
 use Rattle.std.proofs.Math.Option.{Option, some, none}
 use Rattle.codes.specs.Answer.{Form, token, node_id}
 use Rattle.nodes.specs.declared.ActiveList.{ActiveList}

@@ -1,5 +1,7 @@
 // The node words, after ParseBuffer of the Rust's parser/parse_tree.rs. The node count and the open list are passed
 // and returned by value. Where the slots are used up the answer is refusal 33, and what was appended before stays.
+#![tactic(auto)]
+
 ghost use Rattle.std.proofs.Math.Option.{none};
 ghost use Rattle.std.specs.Prelude.{◌≡◌, ◌≤◌, ◌<◌, length, set};
 ghost use Rattle.rules.specs.Codes.Limit as Limits;
@@ -11,14 +13,14 @@ ghost use Rattle.nodes.specs.Answer.{listed, ends, past, WithinSlots, append_two
 use codes::{NodeId, ParseNode, Parsed, Refusal, TokenId};
 
 // A list whose end is yet to come: its first and its last item.
-#[derive(Drop)]
+#[derive(Clone, Copy)]
 pub enum ActiveList {
     Empty,
     Open { first: NodeId, last: NodeId },
 }
 
 // A list with one item more, or a refusal.
-#[derive(Drop)]
+#[derive(Clone, Copy)]
 pub enum Listed {
     List {
         list: ActiveList,

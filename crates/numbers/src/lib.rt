@@ -1,4 +1,6 @@
 // Numbers, as the programs need them.
+#![tactic(auto)]
+
 ghost use Rattle.std.specs.Prelude.{◌≤◌, min, ◌≡◌};
 
 // The lesser of two numbers.

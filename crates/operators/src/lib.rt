@@ -1,5 +1,7 @@
 // Operators between operands and before one, after parse_addition, parse_rest_of_bitwise_expression,
 // parse_rest_of_bitshift_operation, parse_multiplication and parse_unary_expression of the Rust's parser.rs.
+#![tactic(auto)]
+
 ghost use Rattle.std.specs.Prelude.{◌≡◌, ◌+◌, ◌≤◌};
 ghost use Rattle.rules.specs.Codes.Limit as Limits;
 ghost use Rattle.rules.specs.Words.{words};
@@ -17,7 +19,7 @@ pub const NO_OPERATOR: u32 = 11;
 
 // What the operand that is read next is joined with: an operator, what stands left of it, and its token's place. Where
 // there is no operator it is the first operand, and the other two say nothing.
-#[derive(Drop)]
+#[derive(Clone, Copy)]
 pub struct Pending {
     pub op: u32,
     pub left: NodeId,
@@ -25,7 +27,7 @@ pub struct Pending {
 }
 
 // After an operand: an operator with what stands left of it, or the whole, or a refusal.
-#[derive(Drop)]
+#[derive(Clone, Copy)]
 pub enum Joint {
     More {
         pending: Pending,

@@ -1,7 +1,6 @@
 -- What is answered for a load that fits and for one that does not, and that packing is undone.
 use Prim.Native.Nat.{ℕ, ◌≤◌, ◌<◌}
 use mathlib.Core.Path.{◌≡◌, refl}
-use native.Mathlib.Omega.{arith}
 use borrow.Author.Tests.{lt-ltb, le-ltb}
 use Rattle.codes.specs.Answer.{refusal}
 use Rattle.packing.specs.declared.Packed.TheVariants.{Word, Refused}

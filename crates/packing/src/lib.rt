@@ -1,18 +1,20 @@
 // A node's kind and load as one word, and back, for whoever moves nodes between columns and words.
+#![tactic(auto)]
+
 ghost use Rattle.std.specs.Prelude.{◌≡◌};
 ghost use Rattle.packing.specs.Answer.{packing, unpacking};
 
 use codes::{Limit, Parsed, Refusal, TokenId};
 
 // A word, or the refusal of a load that does not fit it.
-#[derive(Drop)]
+#[derive(Clone, Copy)]
 pub enum Packed {
     Word { word: u32 },
     Refused { refusal: Parsed },
 }
 
 // What a word holds.
-#[derive(Drop)]
+#[derive(Clone, Copy)]
 pub struct Unpacked {
     pub kind: u8,
     pub load: u32,

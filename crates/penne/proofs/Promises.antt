@@ -4,7 +4,7 @@ use mathlib.Core.List.{List}
 use mathlib.Core.Logic.{◌≢◌, ◌⊎◌, inl, inr}
 use native.Mathlib.Decide.{dec_le}
 use mathlib.Core.Option.{some, none}
-use Prim.Native.Nat.{ℕ, ◌-◌, ◌≤◌, ◌<◌}
+use Prim.Native.Nat.{ℕ, ◌≤◌, ◌<◌}
 use native.Mathlib.Omega.{arith}
 use lib.ListN.{length, get_or}
 use lib.Seq.{ext_get_or}
@@ -30,7 +30,6 @@ use Rattle.rules.specs.Places.{Placed}
 use Rattle.rules.specs.Words.{Words, word_at, word_kind, word_load, Alongside, Packed, Agrees}
 use Rattle.rules.specs.Ways.{Whole, kind_at, load_at}
 use Rattle.rules.specs.Demand as Demand
-use Rattle.rules.proofs.Demand.{words}
 use Rattle.rules.proofs.Words.{exact}
 use Rattle.checks.proofs.Laws.{Listed, Entered}
 

@@ -1,12 +1,11 @@
 -- Words and columns that agreed before a call agree after it: both are what the definition gives.
-use mathlib.Core.Path.{◌≡◌, refl, sym, ◌∙◌}
-use mathlib.Core.List.{List, map}
+use mathlib.Core.Path.{◌≡◌, sym, ◌∙◌}
+use mathlib.Core.List.{List}
 use Prim.Native.Nat.{ℕ}
 use Rattle.codes.specs.declared.Parsed.{Parsed}
-use Rattle.codes.specs.Answer.{Gives, nodes}
+use Rattle.codes.specs.Answer.{Gives}
 use Rattle.rules.specs.Reading.{Rule, Row}
 use Rattle.rules.specs.Columns.{Nodes}
-use Rattle.rules.specs.Words.{word_kind, word_load}
 use lib.ListN.{length}
 use Rattle.rules.specs.Trees.{Tree}
 use Rattle.checks.specs.Checks.{Check, input_check, declaration_check, word_declaration_check}

@@ -1,5 +1,7 @@
 // The public entries, under the Rust's names: each checks its input in document 01's order, and then parses. They ask
 // nothing of their input: any rows, cursors and columns get a reply. What they promise stands in specs/Promise.antt.
+#![tactic(auto)]
+
 ghost use Rattle.std.specs.Prelude.{◌≡◌};
 ghost use Rattle.codes.specs.Answer.{row, nodes, refusal};
 ghost use Rattle.penne.specs.Answer.{Splits, Split};

@@ -2,6 +2,8 @@
 // parts. Each entry is lent a column `reply` and writes its reply into the first six places: see crate replies. Where the
 // column has fewer places nothing is read or written, and the result is false. Nothing is asked of the input, and nothing
 // is allocated.
+#![tactic(auto)]
+
 ghost use Rattle.std.specs.Prelude.{◌≡◌};
 ghost use Rattle.codes.specs.Answer.{row, nodes};
 ghost use Rattle.codes.specs.Parts.{part_number};

@@ -25,7 +25,8 @@ ProgramTokens = 4096
 -- the little-endian number in four bytes
 unfoldable pub size_at : List ℕ → ℕ → ℕ
 size_at bytes at =
-    get_or bytes at 0 + get_or bytes (at + 1) 0 * 256 + (get_or bytes (at + 2) 0 + get_or bytes (at + 3) 0 * 256) * 65536
+    get_or bytes at 0 + get_or bytes (at + 1) 0 * 256
+    + (get_or bytes (at + 2) 0 + get_or bytes (at + 3) 0 * 256) * 65536
 
 abbrev pub tokens_of : List ℕ → ℕ
 tokens_of bytes = size_at bytes 0

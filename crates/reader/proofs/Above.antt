@@ -5,14 +5,13 @@ use Prim.Native.Nat.{ℕ}
 use mathlib.Core.List.{List, [], ◌∷◌}
 use lib.ListN.{length}
 use seplogic.Ra.Ura.{Ura}
-use seplogic.Ra.TreeShare.{full_share}
+use base.Fraction.{full_share}
 use mir.Syntax.{Ty, ty_int, ty_ref, w8, named, erased, imm, Opd, place, copy, rv_opd, Body as Code, seq, assign, call, Fn}
-use mir.Syntax.{Name}
 use mir.Val.{Val}
 use base.Logic.{SProp, ent, sep, id⊢}
 use base.Fml.{Lft, Share, Fml, ftrue, froom, fat, flft}
 use prog.Memory.{Memory}
-use prog.Routine.{Routine}
+use prog.Routine.{Callee, Routine}
 use prog.Wp.{Env, Calls, Loops, WpFn, Tables, spot_of}
 use types.Logic.{Logic, sem}
 use contract.Monad.{Fun, fact}
@@ -125,7 +124,7 @@ module _ (X : Extra) (P : Promise X) where
           vals.1.1.1)) (E.had-all 𝓛 1 (κ, tt) X a) $ move ! (1 ∷ 0 ∷ []) $ fjoin ! $ move ! (1 ∷ 0 ∷ []) $
           fjoin ! $ move ! (1 ∷ 0 ∷ []) $ fjoin ! $ frame ! $ done !
 
-      module _ (mem : Memory → SProp 𝓤) (run : Routine → Fun 𝓤) (C : Calls 𝓤 H) (Λ : Loops 𝓤 H) (#new : Name)
+      module _ (mem : Memory → SProp 𝓤) (run : Routine → Fun 𝓤) (C : Calls 𝓤 H) (Λ : Loops 𝓤 H) (#new : Callee)
           (fm : FmC 𝓤 H 𝓛.laws C) (known : Triple 𝓤 (C #new) (New 𝓛 mem run)) where
         -- what `new` asks, of what the parameters own
         from_all :

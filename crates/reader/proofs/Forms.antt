@@ -3,6 +3,7 @@
 use Prim.Native.Nat.{ℕ, ◌+◌, ◌≤◌}
 use mathlib.Core.List.{List, [], ◌∷◌}
 use seplogic.Ra.Ura.{Ura}
+use mir.Syntax.{named}
 use base.Logic.{SProp, ent, sep, emp, via, fst∗}
 use types.Logic.{Logic}
 use contract.Monad.{fact}
@@ -92,7 +93,7 @@ module _ (X : Extra) (Y : Way X) where
   lent = record {
     signature = record {
       lifetimes = 2;
-      outlives = record { long = 1; long_ok = tt; short = 0; short_ok = tt } ∷ [];
+      outlives = record { long = 1; long_ok = tt; short = named 0; short_ok = tt } ∷ [];
       params = mut_ref_to (0 ∷ []) tt behind ∷ slots 2 X;
       result = plain (λ _. Y.answer.row);
     };

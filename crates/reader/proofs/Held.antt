@@ -5,7 +5,7 @@ use Prim.Native.Nat.{ℕ}
 use mathlib.Core.List.{List, [], ◌∷◌}
 use lib.ListN.{length}
 use seplogic.Ra.Ura.{Ura}
-use seplogic.Ra.TreeShare.{full_share}
+use base.Fraction.{full_share}
 use mir.Syntax.{named, erased}
 use mir.Val.{Val, WT}
 use base.Logic.{ent, sep}
@@ -127,13 +127,13 @@ module _ {M : Type 1} {𝓤 : Ura M} (𝓛 : Logic 𝓤) (κ : Lft) (h : Tokens)
 module _ {M : Type 1} {𝓤 : Ura M} {𝓛 : Logic 𝓤} {K : Type 0} {Γ : List (Item 𝓤)}
     {G : Goal 𝓤 𝓛.H} where
   pub closes-reader :
-      K → Soaks G → {κ κ' : Lft} {q : Share} (h : Tokens) (c : TokenId) → Is I.the_row c (I'.lowered c ∷ []) →
+      K → Soaks G → {κ : Lft} (κ' : Lft) {q : Share} (h : Tokens) (c : TokenId) → Is I.the_row c (I'.lowered c ∷ []) →
       {u v : Gv} {γ : GName} (b o : ℕ) →
       Step K 𝓛 (‵ (fobs γ ((B κ').coded.code (moved h c))) ∷ ‵ (fbor κ (Body (mem (B κ')) b o γ)) ∷ ‵ (flft κ q) ∷
       Γ) G
       (‵ (Cell (reader κ') full_share (moved h c) b o) ∷ ‵ (Own κ' h) ∷ ‵ (fobor κ q (Body (mem (B κ')) b o γ)) ∷
       ‵ (fobs γ u)
       ∷ ‵ (fauth γ v) ∷ Γ) G
-  closes-reader t z {κ} {κ'} h c is b o = step (λ s.
+  closes-reader t z κ' h c is b o = step (λ s.
       move t (1 ∷ []) $ use1 𝓛 (‵ (Own κ' (moved h c))) (put-cursor 𝓛 κ' h c is) $ move t (1 ∷ 0 ∷ []) $
       closes-whole t z (reader κ') (moved h c) b o $ s)

@@ -5,15 +5,15 @@ use mathlib.Core.Path.{◌≡◌, refl, sym, ap, subst}
 use Prim.Native.Nat.{ℕ, ◌+◌, ◌≤◌}
 use mathlib.Core.List.{List, [], ◌∷◌}
 use seplogic.Ra.Ura.{Ura}
-use seplogic.Ra.TreeShare.PosShare
-use seplogic.Ra.TreeShare.{full_share}
+use base.Fraction.{full_share}
+use base.Share
 use mir.Syntax.{Ty, ty_ref, named, erased, Mutability, field, Place, place, Opd, copy, rv_opd, addr_of}
-use mir.Syntax.{aggregate, Body as Code, seq, assign, call, return, value_local, memory_slot, local as loc, Fn, Name}
+use mir.Syntax.{aggregate, Body as Code, seq, assign, call, return, value_local, memory_slot, local as loc, Fn}
 use mir.Val.{Val, vptr}
 use base.Logic.{SProp, ent, id⊢}
 use base.Fml.{GName, Lft, Share, ftrue, froom, fat, flft}
 use prog.Memory.{Memory}
-use prog.Routine.{Routine}
+use prog.Routine.{Callee, Routine}
 use prog.Wp.{Env, Calls, Loops, WpFn, Tables, spot_of}
 use types.Logic.{Logic}
 use contract.BorrowLft.{meet_⊑_right}
@@ -55,7 +55,7 @@ use Rattle.reader.proofs.Above.{exits, makes, meets}
 
 -- the rule for a call that the reader h in the local l is lent to, whose operands read no entry of the reader's
 module _ (X : Extra) (Y : Way X) {M : Type 1} {𝓤 : Ura M} (𝓛 : Logic 𝓤) (C : Calls 𝓤 𝓛.H)
-    (Λ : Loops 𝓤 𝓛.H) (#f : Name) where
+    (Λ : Loops 𝓤 𝓛.H) (#f : Callee) where
   open 𝓛 use {H}
 
   abbrev pub LentTo : Lft → Share → ℕ → Tokens → Values X → Type 2
@@ -78,7 +78,7 @@ abbrev pub ref-type : Mutability → Ty
 ref-type μ = ty_ref erased μ (pointee (T.the_row (αᵉ [])).written)
 
 module _ (μ : Mutability) (X : Extra) (Y : Way X) {M : Type 1} {𝓤 : Ura M} {𝓛 : Logic 𝓤}
-    {C : Calls 𝓤 𝓛.H} {Λ : Loops 𝓤 𝓛.H} {#f : Name} where
+    {C : Calls 𝓤 𝓛.H} {Λ : Loops 𝓤 𝓛.H} {#f : Callee} where
   -- the step: the address of the reader, which is in the local t, is put in the local r, and the function is called
   open 𝓛 use {H}
 
@@ -99,7 +99,7 @@ module _ (μ : Mutability) (X : Extra) (Y : Way X) {M : Type 1} {𝓤 : Ura M} {
 
 -- by `&mut`, for a lifetime ν of the call
 module _ (X : Extra) (Y : Way X) {M : Type 1} {𝓤 : Ura M} (𝓛 : Logic 𝓤) (C : Calls 𝓤 𝓛.H)
-    (Λ : Loops 𝓤 𝓛.H) (#f : Name) (fm : FmC 𝓤 𝓛.H 𝓛.laws C) (known : Triple 𝓤 (C #f) (Lent X Y 𝓤 𝓛)) (κ : Lft)
+    (Λ : Loops 𝓤 𝓛.H) (#f : Callee) (fm : FmC 𝓤 𝓛.H 𝓛.laws C) (known : Triple 𝓤 (C #f) (Lent X Y 𝓤 𝓛)) (κ : Lft)
     (q : Share) (l : ℕ) (h : Tokens) (below : h.cursor.0 ≤ Limits.Tokens + 1) (x : Values X) (x-is : Knowns X x) where
   abbrev lfts : ℕ → Lfts 2
   lfts ν = (ν ∷ κ, (κ, tt))
@@ -112,7 +112,7 @@ module _ (X : Extra) (Y : Way X) {M : Type 1} {𝓤 : Ura M} (𝓛 : Logic 𝓤)
 
   abbrev to : ℕ → GName → (Lent X Y 𝓤 𝓛).Ghost
   to ν γ = (
-    (lfts ν, (PosShare.left q, (PosShare.right q, tt)), (meet_⊑_right (ν ∷ []) κ, tt), given ν γ, vals ν),
+    (lfts ν, (Share.left q, (Share.right q, tt)), (meet_⊑_right (ν ∷ []) κ, tt), given ν γ, vals ν),
     tt,
   )
 
@@ -143,6 +143,8 @@ module _ (X : Extra) (Y : Way X) {M : Type 1} {𝓤 : Ura M} (𝓛 : Logic 𝓤)
       use1 𝓛 (some (λ (ws : Lasts (lent X Y) (lfts ν) (given ν γ)). ‵ (lasts_of (lent X Y) (lfts ν) (given ν γ) ws)
       ⊛ raw (fact 𝓤 (Said ν γ r ws)))) (id⊢ 𝓤 _) $
       pick ! (λ ws. split ! $ move ! (1 ∷ []) $ heard ! (Said ν γ r ws) (λ e. fsplit ! $
+      -- the borrow of the reader is let go
+      fsplit ! $ move ! (1 ∷ []) $ drop ! $
       move ! (2 ∷ []) $ split ! $ split ! $ move ! (1 ∷ []) $ split ! $
       -- [a half of the token; true; the other half; the answer; res; what else is said at exit; what is kept; …]
       move ! (6 ∷ 4 ∷ []) $ join ! $ move ! (3 ∷ 1 ∷ 0 ∷ []) $
@@ -153,7 +155,7 @@ module _ (X : Extra) (Y : Way X) {M : Type 1} {𝓤 : Ura M} (𝓛 : Logic 𝓤)
       k u r ws.0 (subst (λ (y : Values X). Y.Gives h y r ws.0) (E.out-args 2 (lfts ν) X x) e)))))))
 
 -- the functions that lend a reader once
-module _ (μ : Mutability) (Y : Way none) (g : Asking) (#new #f : Name) where
+module _ (μ : Mutability) (Y : Way none) (g : Asking) (#new #f : Callee) where
   abbrev P : Promise none
   P = promised Y g
 
@@ -171,6 +173,8 @@ module _ (μ : Mutability) (Y : Way none) (g : Asking) (#new #f : Name) where
   function = record {
     lifetimes = 1;
     outlives = [];
+    ty_params = [];
+    givens = 0;
     params = 3;
     locals =
         loc (mir_of Y.step) value_local ∷ loc slice-type value_local ∷ loc slice-type value_local

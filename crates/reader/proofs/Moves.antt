@@ -5,9 +5,10 @@ use mathlib.Core.Path.{refl, ap, subst}
 use Prim.Native.Nat.{ℕ, suc, ◌+◌, ◌≤◌}
 use mathlib.Core.List.{List, [], ◌∷◌}
 use seplogic.Ra.Ura.{Ura}
-use seplogic.Ra.TreeShare.{full_share}
+use base.Fraction.{full_share}
 use mir.Syntax.{Ty, ty_int, ty_ref, w8, named, erased, imm, mut, deref, field, place, copy, rv_opd}
-use mir.Syntax.{Body as Code, seq, assign, call, return, value_local, local as loc, Fn, Name}
+use mir.Syntax.{Body as Code, seq, assign, call, return, value_local, local as loc, Fn}
+use prog.Routine.{Callee}
 use mir.Val.{Val, vptr}
 use base.Logic.{SProp, ent, snd∗, ex_e, id⊢}
 use base.Fml.{GName, Lft, Share, ftrue, fat, flft, fobs, fbor}
@@ -56,7 +57,7 @@ ref-type = ty_ref (named 0) mut (pointee (B []).written)
 abbrev kinds-type : Ty
 kinds-type = slice_ty (ty_ref erased imm (ty_int w8))
 
-module _ (X : Extra) (Y : Way X) (#core : Name) where
+module _ (X : Extra) (Y : Way X) (#core : Callee) where
   -- the n-th local behind the parameters
   abbrev at : ℕ → ℕ
   at n = suc (suc (E.beyond X n))
@@ -67,22 +68,25 @@ module _ (X : Extra) (Y : Way X) (#core : Name) where
       seq (assign (place (at 1) []) (rv_opd (copy (place 1 (deref (T'.mir erased) ∷ field 0 ∷ [])))))
       (seq (assign (place (at 2) []) (rv_opd (copy (place 1 (deref (T'.mir erased) ∷ field 2 ∷ [])))))
       (seq (call #core (copy (place (at 1) []) ∷ copy (place (at 2) []) ∷ E.operands X 2) (place (at 0) []))
-      (seq (assign (place 1 (deref (T'.mir erased) ∷ field 2 ∷ [])) (rv_opd (copy (place (at 0) (field 1 ∷ [])))))
-      (seq (assign (place 0 []) (rv_opd (copy (place (at 0) (field 0 ∷ []))))) return))))
+      (seq (assign (place (at 3) []) (rv_opd (copy (place (at 0) (field 1 ∷ [])))))
+      (seq (assign (place 1 (deref (T'.mir erased) ∷ field 2 ∷ [])) (rv_opd (copy (place (at 3) []))))
+      (seq (assign (place 0 []) (rv_opd (copy (place (at 0) (field 0 ∷ []))))) return)))))
 
   abbrev pub function : Fn
   function = record {
     lifetimes = 2;
     outlives = (1, 0) ∷ [];
+    ty_params = [];
+    givens = 0;
     params = E.beyond X 1;
     locals = loc Y.answer.mir value_local ∷ loc ref-type value_local ∷ E.locals X (loc (mir_of Y.step) value_local
-        ∷ loc kinds-type value_local ∷ loc cursor.mir value_local ∷ []);
+        ∷ loc kinds-type value_local ∷ loc cursor.mir value_local ∷ loc cursor.mir value_local ∷ []);
     body = body;
   }
 
-  -- the locals behind the parameters: the struct that is given, the kinds and the cursor
-  abbrev Temps : ℕ → ℕ → ℕ → List (Ty × ℕ)
-  Temps lₛ lₖ l = (mir_of Y.step, lₛ) ∷ (kinds-type, lₖ) ∷ (cursor.mir, l) ∷ []
+  -- the locals behind the parameters: the struct that is given, the kinds, the cursor and the next one
+  abbrev Temps : ℕ → ℕ → ℕ → ℕ → List (Ty × ℕ)
+  Temps lₛ lₖ l l₂ = (mir_of Y.step, lₛ) ∷ (kinds-type, lₖ) ∷ (cursor.mir, l) ∷ (cursor.mir, l₂) ∷ []
 
   abbrev stayed : Stays (lent X Y).signature.params (lent X Y).kept
   stayed = (stay_ref (0 ∷ []) tt behind, E.stays 2 X)
@@ -173,57 +177,61 @@ module _ (X : Extra) (Y : Way X) (#core : Name) where
         walk =
             qed 𝓛 ((‵ (flft κ q) ⊛ tok) ∷ ‵ (owns (MutRef (named 0) κ (B κ') ∷ E.rows 2 κs X) args vals)
             ∷ []) ∵ enter ! C Λ function (vptr b o ∷ flat (E.rows 2 κs X) vals.1) _ $
-            alloc1 ! (λ l₀. alloc1 ! (λ l₁. E.allocs-extra 𝓛 X (λ bs. alloc1 ! (λ lₛ. alloc1 ! (λ lₖ. alloc1 ! (λ l.
-            naming (E.behind 𝓤 H X bs (Temps lₛ lₖ l)) (λ spot. alloc0 ! $ params1 ! $
-            pass1 ! (init ! 7 refl (tt, tt)) $ move ! (6 ∷ []) $
-            E.passes-extra 𝓛 2 κs X bs a x-is (Temps lₛ lₖ l) $
+            alloc1 ! (λ l₀. alloc1 ! (λ l₁. E.allocs-extra 𝓛 X (λ bs. alloc1 ! (λ lₛ. alloc1 ! (λ lₖ.
+            alloc1 ! (λ l. alloc1 ! (λ l₂.
+            naming (E.behind 𝓤 H X bs (Temps lₛ lₖ l l₂)) (λ spot. alloc0 ! $ params1 ! $
+            pass1 ! (init ! 9 refl (tt, tt)) $ move ! (8 ∷ []) $
+            E.passes-extra 𝓛 2 κs X bs a x-is (Temps lₛ lₖ l l₂) $
             -- the borrow is opened
-            move ! (12 ∷ []) $ fsplit ! $ fsplit3 ! $ drop ! $ move ! (14 ∷ []) $ split ! $ move ! (2 ∷ 3 ∷ 0 ∷ []) $
+            move ! (14 ∷ []) $ fsplit ! $ fsplit3 ! $ drop ! $ move ! (16 ∷ []) $ split ! $ move ! (2 ∷ 3 ∷ 0 ∷ []) $
             opens-whole ! tt (reader κ') h b o (λ was.
             -- [the reader's cell; what it owns; the open borrow; obs; auth; 'a's token; what the other parameters own;
-            -- their locals; the cursor; …; the kinds; …; the struct; …; _1; …; room for _0; …]
-            assigns ! (of_opd ! (load ! (from ! (hop ! (look ! 14 refl) (fld ! refl (stop !))))
+            -- their locals; room for the next cursor; …; the cursor; …; the kinds; …; the struct; …; _1; …; room for _0; …]
+            assigns ! (of_opd ! (load ! (from ! (hop ! (look ! 16 refl) (fld ! refl (stop !))))
             (look_in ! 0 (sub ! 0 refl (whole !))))) (within ! (spot 1) (stop !))
-            (init ! 10 refl (tt, kinds-typed 𝓛 κ' h was)) $
-            assigns ! (of_opd ! (load ! (from ! (hop ! (look ! 14 refl) (fld ! refl (stop !))))
+            (init ! 12 refl (tt, kinds-typed 𝓛 κ' h was)) $
+            assigns ! (of_opd ! (load ! (from ! (hop ! (look ! 16 refl) (fld ! refl (stop !))))
             (look_in ! 0 (sub ! 2 refl (whole !))))) (within ! (spot 2) (stop !))
-            (init ! 8 refl (tt, cursor-typed 𝓛 κ' h was)) $
+            (init ! 10 refl (tt, cursor-typed 𝓛 κ' h was)) $
             move ! (1 ∷ []) $ use1 𝓛 (‵ (R.Passed κ' h) ⊛ ‵ (Own κ' h)) (apart 𝓛 κ' h) $ split ! $
             move ! (0 ∷ 6 ∷ []) $ use2 𝓛 (raw ((Passed X Y 𝓤 𝓛).pre to)) goes $
             -- [what the callee asks; what the reader owns; its cell; the open borrow; obs; auth; what the other
-            -- parameters own; their locals; the cursor; …]
+            -- parameters own; their locals; room for the next cursor; …]
             calls_at ! fm (Passed X Y 𝓤 𝓛) known to
-            (and_then ! (load ! (within ! (spot 1) (stop !)) (look ! 10 refl))
-            (and_then ! (load ! (within ! (spot 2) (stop !)) (look ! 8 refl))
+            (and_then ! (load ! (within ! (spot 1) (stop !)) (look ! 12 refl))
+            (and_then ! (load ! (within ! (spot 2) (stop !)) (look ! 10 refl))
             (E.reads-extra 𝓛 1 (κ', tt) 2 7 X bs x refl (E.spots 𝓤 H X bs ((Y.answer.mir, l₀) ∷ (ref-type, l₁) ∷
-            []) (Temps lₛ lₖ l))))) (λ u.
+            []) (Temps lₛ lₖ l l₂))))) (λ u.
             use1 𝓛 (later (some (λ (s : Y.step.row.Denot). (tok ⊛ ‵ (Y.step.row.own_val s (u ∷ [])))
             ⊛ raw (ensured 𝓛 (passed X Y) (passed-clauses X Y 𝓤) (κ', tt) given tt s)))) (id⊢ 𝓤 _) $
             await ! tt $ pick ! (λ s. split ! $ move ! (1 ∷ []) $
             use1 𝓛 (raw (fact 𝓤 (Said s))) (said s) $ heard ! (Said s) (λ e. split ! $ move ! (1 ∷ []) $
             -- [what the callee gives; 'a's token; what the reader owns; its cell; the open borrow; obs; auth; what the
-            -- other parameters own; their locals; the cursor; …; the kinds; …; room for the struct; …; _1; …; room for
-            -- _0; …]
+            -- other parameters own; their locals; room for the next cursor; …; the cursor; …; the kinds; …; room for the
+            -- struct; …; _1; …; room for _0; …]
             peeks ! Y.step.row (Is Y.step.row) (shows 𝓛 Y.step.row) s (u ∷ []) (λ is.
             land ! (within ! (spot 0) (stop !))
-            (init ! 13 refl (Y.step.typed 𝓛 s u is)) $
-            rewrite ! 13 (λ (y : Val). ‵ (fat full_share (mir_of Y.step) lₛ 0 y)) (ap only (Y.step.tells s (u ∷ [])
+            (init ! 15 refl (Y.step.typed 𝓛 s u is)) $
+            rewrite ! 15 (λ (y : Val). ‵ (fat full_share (mir_of Y.step) lₛ 0 y)) (ap only (Y.step.tells s (u ∷ [])
             is)) refl $
             -- the cursor is stored, and the answer
             assigns ! (of_opd ! (load ! (within ! (spot 0) (fld ! refl (stop !)))
-            (look_in ! 13 (sub ! 1 refl (whole !))))) (from ! (hop ! (look ! 15 refl) (fld ! refl (stop !))))
+            (look_in ! 15 (sub ! 1 refl (whole !))))) (within ! (spot 3) (stop !))
+            (init ! 9 refl (cursor.typed 𝓛 (Y.step.snd s) _ (Y.step.parts s _ is).1)) $
+            assigns ! (of_opd ! (load ! (within ! (spot 3) (stop !)) (look ! 9 refl)))
+            (from ! (hop ! (look ! 17 refl) (fld ! refl (stop !))))
             (store_in ! 3 (sub ! 2 refl (whole !)) (cursor.typed 𝓛 (Y.step.snd s) _ (Y.step.parts s _ is
             ).1)) $
             assigns ! (of_opd ! (load ! (within ! (spot 0) (fld ! refl (stop !)))
-            (look_in ! 13 (sub ! 0 refl (whole !))))) (itself !) (init ! 17 refl (Y.answer.typed 𝓛
+            (look_in ! 15 (sub ! 0 refl (whole !))))) (itself !) (init ! 19 refl (Y.answer.typed 𝓛
             (Y.step.fst s) _ (Y.step.parts s _ is).0)) $
             -- the borrow is closed at the new cursor
             drop ! $ move ! (2 ∷ 1 ∷ 3 ∷ 4 ∷ 5 ∷ []) $
-            closes-reader ! tt h (Y.step.snd s) (Y.step.parts s _ is).1 b o $
-            returns ! (look ! 14 refl) $ gone ! 14 refl refl $ gone ! 12 refl refl $ move ! (5 ∷ []) $
-            E.frees-extra 𝓛 X bs x $ gone ! 9 refl refl $ gone ! 7 refl refl $ gone ! 5 refl refl $ free0 ! $
-            keep ! (0 ∷ 1 ∷ 2 ∷ 3 ∷ []) $
-            by ! (exits (Y.step.fst s) (moved h (Y.step.snd s)) (gives s e) (Y.step.parts s _ is).0)))))))))))))
+            closes-reader ! tt κ' h (Y.step.snd s) (Y.step.parts s _ is).1 b o $
+            returns ! (look ! 16 refl) $ gone ! 16 refl refl $ gone ! 14 refl refl $ move ! (5 ∷ []) $
+            E.frees-extra 𝓛 X bs x $ gone ! 11 refl refl $ gone ! 9 refl refl $ gone ! 7 refl refl $ gone ! 5 refl refl $
+            free0 ! $ keep ! (0 ∷ 1 ∷ 2 ∷ 3 ∷ []) $
+            by ! (exits (Y.step.fst s) (moved h (Y.step.snd s)) (gives s e) (Y.step.parts s _ is).0))))))))))))))
 
   module _ {M : Type 1} {𝓤 : Ura M} (𝓛 : Logic 𝓤) where
     open 𝓛 use {H}

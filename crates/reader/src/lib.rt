@@ -1,6 +1,8 @@
 // A reader: the row and the place in it in one struct, after the Rust's Tokens of parser/tokens.rs. Each of its functions
 // takes it apart and calls a function on the row's kinds and the cursor, of crate tokens or above it. A caller that has
 // no reader uses the functions at the end, whose parameters are the row and the cursor.
+#![tactic(auto)]
+
 ghost use Rattle.std.specs.Prelude.{◌≡◌, ◌+◌, ◌≤◌};
 ghost use Rattle.rules.specs.Codes.Limit as Limits;
 ghost use Rattle.codes.specs.Words.{Quiet};
@@ -19,7 +21,7 @@ pub struct Tokens<'a> {
 }
 
 // What is answered for a token that is expected, and the cursor after it.
-#[derive(Drop)]
+#[derive(Clone, Copy)]
 pub struct Expecting {
     pub answer: Consumed,
     pub cursor: TokenId,

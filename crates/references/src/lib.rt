@@ -1,5 +1,7 @@
 // Names with ampersands before and steps after them, after parse_reference and parse_deref_steps_list of the Rust's
 // parser.rs; and the end of what stands between two tokens.
+#![tactic(auto)]
+
 ghost use Rattle.std.specs.Prelude.{◌≡◌, ◌+◌, ◌≤◌, length};
 ghost use Rattle.rules.specs.Codes.Limit as Limits;
 ghost use Rattle.rules.specs.Codes.Refusal as Number;
@@ -15,7 +17,7 @@ use nodes::{ActiveList, Listed, push, push_end_of_list, push_list_item, push_two
 use tokens::{Consumed, consume, consume_optional};
 
 // How many ampersands there are, or a refusal.
-#[derive(Drop)]
+#[derive(Clone, Copy)]
 pub enum Ampersands {
     Depth {
         depth: u32,
@@ -28,7 +30,7 @@ pub enum Ampersands {
 }
 
 // How many ampersands there are, with the name after them, or a refusal.
-#[derive(Drop)]
+#[derive(Clone, Copy)]
 pub enum Address {
     Name {
         depth: u32,
@@ -42,7 +44,7 @@ pub enum Address {
 }
 
 // A turn of the steps: the list with a step more, or the whole list, or a refusal.
-#[derive(Drop)]
+#[derive(Clone, Copy)]
 pub enum Stepped {
     More {
         list: ActiveList,

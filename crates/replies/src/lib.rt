@@ -1,5 +1,7 @@
 // A reply in a column of numbers, as the libraries for C and Rust give it: in its first six places the case, then the
 // five numbers of a refusal, or the three of an acceptance and two zeros.
+#![tactic(auto)]
+
 ghost use Rattle.std.specs.Prelude.{◌≡◌, ◌≤◌, length};
 ghost use Rattle.replies.specs.Reply.{ReplyNumbers, placed, written, written_word};
 

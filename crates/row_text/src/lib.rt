@@ -6,6 +6,8 @@
 // after a `*` how often they stand, if not once. A token is its kind, and after a `/` its value type, if that is not
 // i32. EndOfSource is a token like any other. Words need spaces between them; else spaces are free outside of words.
 // A program may have other settings in the place of SLOTS, each a name and a number.
+#![tactic(auto)]
+
 ghost use Rattle.std.specs.Prelude.{◌+◌, ◌-◌, ◌*◌, ◌≤◌, ◌≡◌, length};
 ghost use Rattle.row_text.specs.LineLimits as LineLimits;
 ghost use Rattle.row_text.specs.Read.{Counted, Fits};
@@ -29,7 +31,7 @@ const BYTE: u32 = 255;
 const TIMES: u32 = 65_536;
 
 // How many tokens there are once some were read, and the place after these; or that they could not be read.
-#[derive(Drop)]
+#[derive(Clone, Copy)]
 pub struct Tokens {
     pub good: bool,
     pub count: usize,
@@ -37,7 +39,7 @@ pub struct Tokens {
 }
 
 // What a line says: where its text ends, the slots, and how many tokens there are; or that the line is bad.
-#[derive(Drop)]
+#[derive(Clone, Copy)]
 pub struct Row {
     pub good: bool,
     pub text: usize,

@@ -4,24 +4,23 @@ use native.Mathlib.Omega.{arith}
 use native.Mathlib.Decide.{dec_le}
 use mathlib.Core.Bool.{Bool, true, false}
 use mathlib.Core.Logic.{inl, inr, ◌≢◌}
-use mathlib.Core.Path.{◌≡◌, refl, sym, ◌∙◌}
+use mathlib.Core.Path.{◌≡◌, refl}
 use mathlib.Core.List.{List, [], ◌∷◌}
 use mathlib.Core.Option.{Option, some, none}
-use lib.ListN.{length, length-set, get_or, set}
+use lib.ListN.{length, length-set}
 use lib.Seq.{get_or-set_same, get_or-set_other}
 use lib.Dec.{ltb, eqb}
 use borrow.Author.Tests.{eqb-true, eqb-false, ltb-true, ltb-false}
 use Rattle.rules.specs.Codes.Refusal as Refusal
 use Rattle.rules.specs.Codes.ParseNode as ParseNode
-use Rattle.rules.specs.Reading.{Rule, Result, Row, ok, no, kind_of, ◌>>=◌, pure}
+use Rattle.rules.specs.Reading.{Rule, Result, Row, ok, no, kind_of, ◌>>=◌}
 use Rattle.rules.specs.Lists.{Ends, extended, ended, push_list_item, push_end_of_list}
 use Rattle.rules.specs.Columns.{Nodes, columns}
 use Rattle.rules.specs.Columns as C
 use Rattle.rules.specs.Places.{Placed}
 use Rattle.rules.specs.Words.{Words, word_at, packed, written, append, patch}
-use Rattle.rules.specs.Words.{words, Exact, Alongside, Packed, Agrees}
+use Rattle.rules.specs.Words.{words, Exact, Packed, Agrees}
 use Rattle.rules.specs.Ways.{kind_at, load_at}
-use Rattle.rules.specs.Demand.{Paired}
 use Rattle.rules.proofs.Lists.{get_d_past}
 use Rattle.rules.proofs.Sim.{Relation, Known, Token, Sim, Both, Via, ◌for◌, each, gives, eased, loosened}
 use Rattle.rules.proofs.Model.{Rows, Model, one-row, equal, fits_byte, plus}

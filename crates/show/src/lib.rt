@@ -1,4 +1,6 @@
 // What the test programs print of a parse: the reply and the nodes, in one line.
+#![tactic(auto)]
+
 ghost use Rattle.std.specs.Prelude.{min, ◌≡◌, length};
 ghost use Rattle.show.specs.Count.{count_of};
 

@@ -3,6 +3,8 @@
 // parse_expression for the first bad token. A line for each length: the tokens, and how many rows were answered right.
 // With n tokens there are 14 n n rows: 7 kinds, of which 6 are bad, and 2 value types, of which one is bad, at n places
 // each.
+#![tactic(auto)]
+
 ghost use Rattle.std.specs.Prelude.{◌≤◌, ◌<◌};
 
 use codes::{BaseToken, Parsed, Refusal, TokenId, ValueTypeKeyword};

@@ -1,5 +1,7 @@
 // Document 01's type rows, and a row for each refusal that a type can meet, by parse_type. For each row: its text, the
 // reply, and the nodes up to the count.
+#![tactic(auto)]
+
 ghost use Rattle.std.specs.Prelude.{◌≤◌, ◌≡◌, length};
 ghost use Rattle.rules.specs.Codes.Limit as Limits;
 

@@ -1,4 +1,6 @@
 // Types, after parse_type and parse_inner_type of the Rust's parser.rs.
+#![tactic(auto)]
+
 ghost use Rattle.std.specs.Prelude.{◌+◌, ◌≤◌, length};
 ghost use Rattle.rules.specs.Codes.Limit as Limits;
 ghost use Rattle.rules.specs.Types.{inner_type, type, array_size};
@@ -14,7 +16,7 @@ use tokens::{Consumed, consume, peek};
 
 // How an inner type starts. Leaf: a node's kind and load, the cursor after its token, and the count. Around: the kind
 // and load of the node that follows the element type, the cursor where that begins, and the count.
-#[derive(Drop)]
+#[derive(Clone, Copy)]
 enum Start {
     Leaf(u8, u32, TokenId, u32),
     Around(u8, u32, TokenId, u32),
@@ -22,7 +24,7 @@ enum Start {
 }
 
 // Whether a type is of a single token, and then its node's kind and load.
-#[derive(Drop)]
+#[derive(Clone, Copy)]
 pub struct Short {
     pub found: bool,
     pub kind: u8,

@@ -2,38 +2,39 @@
 use Prim.Native.Nat.{ℕ}
 use mathlib.Core.List.{List, [], ◌∷◌}
 use seplogic.Ra.Ura.{Ura}
-use seplogic.Ra.TreeShare.PosShare
-use seplogic.Ra.TreeShare.{full_share}
+use base.Fraction.{full_share}
+use base.Share
 use mir.Syntax.{named}
 use mir.Val.{vptr}
 use base.Logic.{ent, wand, ex, apply∗}
-use base.Fml.{Lft, GName, Share, Fml, flft, fdead, fres, flent}
+use base.Fml.{Lft, Incl-refl, GName, Share, Fml, flft, fdead, fres, flent}
 use types.Logic.{Logic}
-use contract.BorrowLft.{meet_⊑_left}
+use contract.BorrowLft.{meet_⊑_left, meet_⊑_right}
 use types.Kit.{Item, ‵, raw, mean, ◌⊛◌, ⋆, some, later, ◌$◌, ◌∵◌, !, qed, move, use1, use2, use3, split}
 use types.Kit.{pick, await, updating, now as at_once, show, done}
 use types.SemTy.{Body}
 use types.Tokens.{lft_new, lft_end, lent_back}
 use denote.Lend.{lends_ref, ref_back, lends_shr}
-use denote.Memory.{mem, part_at}
+use denote.Memory.{mem, part_at, shared_of}
 use denote.Ref.{MutBor, MutRef, ShrRef}
+use denote.Shares.{SharesAt}
 use Rattle.walks.proofs.Whole.{Whole, Cell, Own, lies_in, lies_out}
 
 -- A value that holds references at κ is lent for the meet of κ and a lifetime ν of the call: one half of κ's token goes
 -- into the token of the meet, the other to the callee.
 module _ (κ : Lft) (q : Share) where
   abbrev pub Short : ℕ → Fml
-  Short ν = flft (ν ∷ κ) (PosShare.left q)
+  Short ν = flft (ν ∷ κ) (Share.left q)
 
   abbrev pub Long : Fml
-  Long = flft κ (PosShare.right q)
+  Long = flft κ (Share.right q)
 
   module _ {M : Type 1} {𝓤 : Ura M} (𝓛 : Logic 𝓤) where
     -- the way back to ν's token
     open 𝓛 use {H, A}
 
     abbrev pub Way : ℕ → Item 𝓤
-    Way ν = raw (wand 𝓤 (A.lft (ν ∷ []) (PosShare.left q)) (A.lft (ν ∷ []) full_share))
+    Way ν = raw (wand 𝓤 (A.lft (ν ∷ []) (Share.left q)) (A.lft (ν ∷ []) full_share))
 
     module _ (ν : ℕ) where
       tokens-out :
@@ -41,20 +42,20 @@ module _ (κ : Lft) (q : Share) where
           ν ∷ []))
       tokens-out =
           qed 𝓛 (‵ (flft (ν ∷ []) full_share) ∷ ‵ (flft κ q) ∷ []) ∵
-          use1 𝓛 (‵ (flft (ν ∷ []) (PosShare.left q)) ⊛ Way ν) (𝓛.lfts.lft_carve ν (PosShare.left q)) $ split ! $
-          move ! (2 ∷ []) $ use1 𝓛 (‵ (flft κ (PosShare.left q)) ⊛ ‵ Long) (𝓛.lfts.lft_split κ q) $ split ! $
+          use1 𝓛 (‵ (flft (ν ∷ []) (Share.left q)) ⊛ Way ν) (𝓛.lfts.lft_carve ν (Share.left q)) $ split ! $
+          move ! (2 ∷ []) $ use1 𝓛 (‵ (flft κ (Share.left q)) ⊛ ‵ Long) (𝓛.lfts.lft_split κ q) $ split ! $
           -- [a half of κ's token; the other; a share of ν's; the way back]
-          move ! (2 ∷ 0 ∷ []) $ use2 𝓛 (‵ (Short ν)) (𝓛.lfts.lft_meet (ν ∷ []) κ (PosShare.left q)) $ done !
+          move ! (2 ∷ 0 ∷ []) $ use2 𝓛 (‵ (Short ν)) (𝓛.lfts.lft_meet (ν ∷ []) κ (Share.left q)) $ done !
 
       tokens-back :
           ent 𝓤 (⋆ 𝓛 (‵ (Short ν) ∷ ‵ Long ∷ Way ν ∷ [])) (H.⇛ (⋆ 𝓛 (‵ (fdead (ν ∷ κ)) ∷ ‵ (flft κ q) ∷
           [])))
       tokens-back =
           qed 𝓛 (‵ (Short ν) ∷ ‵ Long ∷ Way ν ∷ []) ∵ updating ! $
-          use1 𝓛 (‵ (flft (ν ∷ []) (PosShare.left q)) ⊛ ‵ (flft κ (PosShare.left q))) (𝓛.lfts.lft_unmeet (ν ∷ [])
-          κ (PosShare.left q)) $ split ! $
+          use1 𝓛 (‵ (flft (ν ∷ []) (Share.left q)) ⊛ ‵ (flft κ (Share.left q))) (𝓛.lfts.lft_unmeet (ν ∷ [])
+          κ (Share.left q)) $ split ! $
           move ! (1 ∷ 2 ∷ []) $ use2 𝓛 (‵ (flft κ q)) (𝓛.lfts.lft_join κ q) $ move ! (1 ∷ 2 ∷ []) $
-          use2 𝓛 (‵ (flft (ν ∷ []) full_share)) (apply∗ 𝓤 (A.lft (ν ∷ []) (PosShare.left q))
+          use2 𝓛 (‵ (flft (ν ∷ []) full_share)) (apply∗ 𝓤 (A.lft (ν ∷ []) (Share.left q))
           (A.lft (ν ∷ []) full_share)) $ lft_end ! tt $
           use1 𝓛 (‵ (fdead (ν ∷ κ))) (𝓛.lfts.dead-incl (ν ∷ κ) (ν ∷ []) (meet_⊑_left (ν ∷ []) κ)) $ at_once ! $
           done !
@@ -70,8 +71,8 @@ module _ (T : Whole) (l : ℕ) where
   abbrev Loan : Lft → GName → Fml
   Loan κ γ = flent κ (Body (mem T.row) l 0 γ)
 
-  abbrev pub Shr : Lft → GName → T.row.Denot → Fml
-  Shr κ γ h = (ShrRef (named 0) κ T.row).own_val (ref γ h) (vptr l 0 ∷ [])
+  abbrev pub Shr : Lft → T.row.Denot → Fml
+  Shr κ h = (ShrRef (named 0) κ T.row).own_val (record { ref_ptr = (l, 0); now = h }) (vptr l 0 ∷ [])
 
   -- a value that holds no reference is lent for a lifetime ν of its own
   module _ {M : Type 1} {𝓤 : Ura M} (𝓛 : Logic 𝓤) (h : T.row.Denot) where
@@ -123,8 +124,8 @@ module _ (T : Whole) (l : ℕ) where
     abbrev pub LentWithin : T.row.Denot → ℕ → GName → Item 𝓤
     LentWithin h ν γ = ‵ (Ref (ν ∷ κ) γ h) ⊛ ‵ (Short κ q ν) ⊛ ‵ (Long κ q) ⊛ Kept ν γ
 
-    abbrev pub SharedWithin : T.row.Denot → ℕ → GName → Item 𝓤
-    SharedWithin h ν γ = ‵ (Shr (ν ∷ κ) γ h) ⊛ ‵ (Short κ q ν) ⊛ ‵ (Long κ q) ⊛ KeptShr h ν
+    abbrev pub SharedWithin : T.row.Denot → ℕ → Item 𝓤
+    SharedWithin h ν = ‵ (Shr (ν ∷ κ) h) ⊛ ‵ (Short κ q ν) ⊛ ‵ (Long κ q) ⊛ KeptShr h ν
 
     module _ (h : T.row.Denot) where
       pub lends-within :
@@ -159,20 +160,24 @@ module _ (T : Whole) (l : ℕ) where
           use1 𝓛 (‵ (Cell T full_share h l 0) ⊛ ‵ (Own T h)) (lies_out T 𝓛 h l 0) $ split ! $ at_once ! $
           done !
 
+      -- a `&` is made by what its type says of that
       pub shares-within :
-          ent 𝓤 (⋆ 𝓛 (Start h)) (H.⇛ (ex 𝓤 (λ (ν : ℕ). ex 𝓤 (λ (γ : GName). mean 𝓛 (SharedWithin h ν γ)))))
-      shares-within =
+          SharesAt 𝓛 T.row h (shared_of T.row h) κ →
+          ent 𝓤 (⋆ 𝓛 (Start h)) (H.⇛ (ex 𝓤 (λ (ν : ℕ). mean 𝓛 (SharedWithin h ν))))
+      shares-within s =
           qed 𝓛 (Start h) ∵ updating ! $
           use2 𝓛 (‵ (part_at T.row full_share h l 0)) (lies_in T 𝓛 h l 0) $
-          lft_new ! tt (λ ν. move ! (1 ∷ []) $
-          use1 𝓛 (later (some (λ (γ : GName). ‵ (Shr (ν ∷ κ) γ h) ⊛ ‵ (flent (ν ∷ κ) (part_at T.row full_share h l
-          0))))) (lends_shr 𝓛 T.row (named 0) (ν ∷ κ) full_share h l 0) $
-          await ! tt $ pick ! (λ γ. split ! $
-          move ! (2 ∷ 3 ∷ []) $ use2 𝓛 (‵ (Short κ q ν) ⊛ ‵ (Long κ q) ⊛ Way κ q 𝓛 ν) (tokens-out κ q 𝓛
-          ν) $ split ! $ move ! (1 ∷ []) $ split ! $
-          at_once ! $ show ! (λ (ν : ℕ). ex 𝓤 (λ (γ : GName). mean 𝓛 (SharedWithin h ν γ))) ν $
-          show ! (λ (γ : GName). mean 𝓛 (SharedWithin h ν γ)) γ $
-          move ! (3 ∷ 2 ∷ 0 ∷ 4 ∷ 1 ∷ []) $ done !))
+          lft_new ! tt (λ ν. move ! (0 ∷ 2 ∷ []) $
+          use2 𝓛 (‵ (Short κ q ν) ⊛ ‵ (Long κ q) ⊛ Way κ q 𝓛 ν) (tokens-out κ q 𝓛 ν) $ split ! $
+          -- [the token of the meet; the rest of κ's token and the way back to ν's; what lies there]
+          move ! (2 ∷ 0 ∷ []) $
+          use2 𝓛 (later ((‵ (Shr (ν ∷ κ) h) ⊛ ‵ (flent (ν ∷ κ) (part_at T.row full_share h l 0))) ⊛ ‵ (Short κ q ν)))
+          (lends_shr 𝓛 T.row (named 0) (ν ∷ κ) full_share h l 0 κ s ((ν ∷ κ, Share.left q) ∷ []) (meet_⊑_right
+          (ν ∷ []) κ) (Incl-refl (ν ∷ κ))) $
+          await ! tt $ split ! $ split ! $ move ! (3 ∷ []) $ split ! $
+          -- [the rest of κ's token; the way back to ν's; the reference; the loan; the token of the meet]
+          at_once ! $ show ! (λ (ν : ℕ). mean 𝓛 (SharedWithin h ν)) ν $
+          move ! (2 ∷ 4 ∷ 0 ∷ 3 ∷ 1 ∷ []) $ done !)
 
       pub share_back :
           (ν : ℕ) → ent 𝓤 (⋆ 𝓛 (‵ (Short κ q ν) ∷ ‵ (Long κ q) ∷ KeptShr h ν ∷ [])) (H.⇛ (⋆ 𝓛 (Start h)))

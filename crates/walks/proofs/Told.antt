@@ -6,7 +6,7 @@ use mir.Syntax.{Fn}
 use base.Logic.{ent, sep}
 use prog.Wp.{Heap, WpFn, Closed, Tables}
 use prog.Model.{Model}
-use prog.Routine.{Name, Routine, Env}
+use prog.Routine.{Callee, Routine, Env}
 use types.Logic.{Logic}
 use contract.Lifetimes.{Lfts, Shares, AllOutlive}
 use contract.Running.{Running, tables, tables_of}
@@ -49,9 +49,9 @@ by-walk {𝓤 = 𝓤} 𝓛 T hs c f 𝓣 gs sp tl walk =
 module _ {M : Type 1} (𝓤 : Ura M) (H : Heap 𝓤) (𝓜 : Model 𝓤 H) (𝓡 : Running 𝓤 H 𝓜) (γ : Env) where
   -- the callee j, whose routine meets d, meets d in the tables
   abbrev pub Cites : Tables 𝓤 H → Type 2
-  Cites 𝓣 = (d : Contract 𝓤) (j : Name) (r : Routine) → γ j ≡ r → Triple 𝓤 (𝓡.run r) d → Triple 𝓤 (𝓣.C j) d
+  Cites 𝓣 = (d : Contract 𝓤) (j : Callee) (r : Routine) → γ j ≡ r → Triple 𝓤 (𝓡.run r) d → Triple 𝓤 (𝓣.C j) d
 
-  pub told : (c : Contract 𝓤) (k : Name) (f : Fn) → Closed 𝓤 H (tables 𝓤 H 𝓜 𝓡 γ).C (tables 𝓤 H 𝓜 𝓡 γ).Λ k f →
+  pub told : (c : Contract 𝓤) (k : Callee) (f : Fn) → Closed 𝓤 H (tables 𝓤 H 𝓜 𝓡 γ).C (tables 𝓤 H 𝓜 𝓡 γ).Λ k f →
       ((𝓣 : Tables 𝓤 H) → Cites 𝓣 → Triple 𝓤 (WpFn 𝓤 H 𝓣.C 𝓣.Λ f) c) → Triple 𝓤 (𝓡.run (γ k)) c
   unfolding tables_of
   told c k f closed walk =

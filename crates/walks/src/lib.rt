@@ -1,1 +1,2 @@
-// What the proofs by hand of crates reader and buffer share: see proofs/. No code.
+// Lemmas for a proof that walks a function's code by hand: see proofs/. No code.
+#![tactic(auto)]
