@@ -1,9 +1,9 @@
 /*
  * A parser of Penne expressions, types and declarations, for C.
  *
- * Link target/staticlib/libpenne_c.a, which `rt staticlib penne_c` makes for x86-64 Linux:
+ * Link crates/penne_c/out/libpenne_c.a, which `rt lib` makes in crates/penne_c, for x86-64 Linux:
  *
- *     cc -Iinclude program.c target/staticlib/libpenne_c.a
+ *     cc -Iinclude program.c crates/penne_c/out/libpenne_c.a
  *
  * A row of tokens is two columns: a kind for each token (enum penne_base_token) and its value type (enum
  * penne_value_type_keyword), which is read only where the kind is ValueTypeKeyword or SuffixedInteger. The last token

@@ -1,10 +1,10 @@
 /*
  * The entries of penne.h with a word a node, and packing, for C.
  *
- * Link target/staticlib/libpenne_words_c.a, which `rt staticlib penne_words_c` makes for x86-64 Linux; for penne_part
- * also libpenne_c.a:
+ * Link crates/penne_words_c/out/libpenne_words_c.a, which `rt lib` makes in crates/penne_words_c, for x86-64 Linux; for
+ * penne_part also libpenne_c.a:
  *
- *     cc -Iinclude program.c target/staticlib/libpenne_words_c.a
+ *     cc -Iinclude program.c crates/penne_words_c/out/libpenne_words_c.a
  *
  * A word has the node's kind in its low 8 bits and its load in the upper 24. Given the same nodes, one entry with columns
  * and with words gives the same reply and leaves the same nodes in all slots, whether it accepts or refuses.

@@ -1,17 +1,12 @@
-//! Links the static library libpenne_c.a, which `rt staticlib penne_c` makes, and for the feature
-//! `words` libpenne_words_c.a, which `rt staticlib penne_words_c` makes.
+//! Links the static library libpenne_c.a, which `rt lib` makes in crates/penne_c, and for the feature
+//! `words` libpenne_words_c.a, which `rt lib` makes in crates/penne_words_c.
 
 use std::env;
 use std::path::{Path, PathBuf};
 use std::process::exit;
 
-/// The variable that names another folder with the library.
+/// The variable that names another folder with the libraries.
 const FOLDER: &str = "PENNE_C_LIB_DIR";
-
-const LIBRARY: &str = "libpenne_c.a";
-
-/// That of the feature `words`.
-const WORDS_LIBRARY: &str = "libpenne_words_c.a";
 
 fn main() {
     println!("cargo::rerun-if-env-changed={FOLDER}");
@@ -19,43 +14,35 @@ fn main() {
     if target("ARCH") != "x86_64" || target("OS") != "linux" {
         stop("The library penne_c is made for x86-64 Linux only.");
     }
-    let folder = folder();
-    let library = folder.join(LIBRARY);
+    // The tests ask for the libraries by these variables.
+    link("penne_c", "PENNE_C_LIB");
+    if env::var_os("CARGO_FEATURE_WORDS").is_some() {
+        link("penne_words_c", "PENNE_WORDS_C_LIB");
+    }
+}
+
+/// Links the library of a crate, and gives its path to the package in a variable.
+fn link(name: &str, variable: &str) {
+    let folder = folder(name);
+    let library = folder.join(format!("lib{name}.a"));
     println!("cargo::rerun-if-changed={}", library.display());
     if !library.is_file() {
         stop(&format!(
-            "There is no {}. Run `rt staticlib penne_c` in the folder above rust/, \
-             or let {FOLDER} name the folder that has {LIBRARY}.",
+            "There is no {}. Run `rt lib` in crates/{name}, or let {FOLDER} name the folder that \
+             has lib{name}.a.",
             library.display()
         ));
     }
     println!("cargo::rustc-link-search=native={}", folder.display());
-    println!("cargo::rustc-link-lib=static=penne_c");
-    if env::var_os("CARGO_FEATURE_WORDS").is_some() {
-        words(&folder);
-    }
-    // The tests ask for the libraries by names like this.
-    println!("cargo::rustc-env=PENNE_C_LIB={}", library.display());
+    println!("cargo::rustc-link-lib=static={name}");
+    println!("cargo::rustc-env={variable}={}", library.display());
 }
 
-/// Links the library of the entries with words.
-fn words(folder: &Path) {
-    let library = folder.join(WORDS_LIBRARY);
-    println!("cargo::rerun-if-changed={}", library.display());
-    if !library.is_file() {
-        stop(&format!(
-            "There is no {}. Run `rt staticlib penne_words_c` in the folder above rust/.",
-            library.display()
-        ));
-    }
-    println!("cargo::rustc-link-lib=static=penne_words_c");
-    println!("cargo::rustc-env=PENNE_WORDS_C_LIB={}", library.display());
-}
-
-fn folder() -> PathBuf {
+/// The folder that has the library of a crate.
+fn folder(name: &str) -> PathBuf {
     match env::var_os(FOLDER) {
         Some(folder) => PathBuf::from(folder),
-        None => Path::new(env!("CARGO_MANIFEST_DIR")).with_file_name("target/staticlib"),
+        None => Path::new(env!("CARGO_MANIFEST_DIR")).with_file_name(format!("crates/{name}/out")),
     }
 }
 

@@ -13,7 +13,7 @@ import penne_codes as codes
 
 ROOT = os.path.dirname(os.path.dirname(os.path.abspath(__file__)))
 
-FOLDER = os.environ.get("PENNE_C_LIB_DIR", os.path.join(ROOT, "target/staticlib"))
+FOLDER = os.environ.get("PENNE_C_LIB_DIR", os.path.join(ROOT, "crates/penne_c/out"))
 LIBRARY = os.path.join(FOLDER, "libpenne_c.a")
 
 # The places of a reply, and what stands in the first of an acceptance.
@@ -37,7 +37,7 @@ class Missing(Exception):
 class Library:
     def __init__(self):
         if not os.path.exists(LIBRARY):
-            raise Missing(f"there is no {os.path.relpath(LIBRARY)}: `rt staticlib penne_c` makes it")
+            raise Missing(f"there is no {os.path.relpath(LIBRARY)}: `rt lib` in crates/penne_c makes it")
         with tempfile.TemporaryDirectory() as folder:
             shared = os.path.join(folder, "libpenne_c.so")
             command = ["cc", "-shared", "-nostdlib", "-Wl,--whole-archive", LIBRARY, "-o", shared]

@@ -3,6 +3,8 @@
 
 usage: tools/respell.py        at the top of the repository, once, right after port.py
 
+Where no file has a name to be respelled it changes nothing, so a second run does no harm. With any word it prints this.
+
 A definition `itemEnd` becomes `item_end`. A lemma whose name would fall together with such a definition gets `_lem`.
 Names of src/, exported C names and strings stay. In must-fail edits and documents the definitions are respelled too.
 """
@@ -68,9 +70,21 @@ def sources():
                 yield os.path.join(folder, f)
 
 
+def left(path):
+    """Whether a file has a definition that is not respelled."""
+    with open(path, encoding="utf-8") as f:
+        return any(word in DEFINITIONS for word in WORD.findall(f.read()))
+
+
 def main():
+    if len(sys.argv) > 1:
+        print(__doc__)
+        return 0 if sys.argv[1:] in (["--help"], ["-h"]) else 2
     names = {n: snake(n) for n in DEFINITIONS + DASHED} | OTHERWISE
     lemmas = {n: n + "_lem" for n in LEMMAS}
+    if not any(map(left, sources())):
+        print("respell: no file has a name to be respelled")
+        return 0
     changed = 0
     for path in [*sources(), *documents()]:
         with open(path, encoding="utf-8") as f:

@@ -3,7 +3,7 @@
 //!
 //! The entries are those of the package with the same names. They give the same replies, and words
 //! that are the packing of the nodes that those append. They are a static library of their own,
-//! which `rt staticlib penne_words_c` makes.
+//! which `rt lib` makes in `crates/penne_words_c`.
 //!
 //! ```
 //! use penne_parser::BaseToken::{NakedDecimal, Plus};

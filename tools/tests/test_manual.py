@@ -91,7 +91,8 @@ class Tables(unittest.TestCase):
 
     def test_sections_that_comments_point_to(self):
         titles = re.findall(r"^#+ (.*)$", TEXT, re.MULTILINE)
-        for folder, _, files in os.walk(os.path.join(ROOT, "crates")):
+        for folder, folders, files in os.walk(os.path.join(ROOT, "crates")):
+            folders[:] = [name for name in folders if name != "out"]
             for file in files:
                 if file.endswith((".antt", ".rt")):
                     with open(os.path.join(folder, file), encoding="utf-8") as source:
@@ -100,7 +101,7 @@ class Tables(unittest.TestCase):
                         self.assertTrue(any(title.startswith(known) for known in titles), f"{file}: {title}")
 
 
-@unittest.skipUnless(os.path.exists(penne_library.LIBRARY), "rt staticlib penne_c has not made the library")
+@unittest.skipUnless(os.path.exists(penne_library.LIBRARY), "rt lib in crates/penne_c has not made the library")
 class Examples(unittest.TestCase):
     @classmethod
     def setUpClass(cls):

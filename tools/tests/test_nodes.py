@@ -22,7 +22,7 @@ def row(line, entry="expression", *words):
     return subprocess.run(command, capture_output=True, check=True).stdout
 
 
-@unittest.skipUnless(MADE, "rt staticlib penne_c has not made the library")
+@unittest.skipUnless(MADE, "rt lib in crates/penne_c has not made the library")
 class Nodes(unittest.TestCase):
     def test_the_drawings(self):
         """All five entries. The nodes in drawings.txt are upstream's."""
@@ -75,4 +75,4 @@ class Missing(unittest.TestCase):
     def test_no_library(self):
         status, output, error = nodes(row("1"), PENNE_C_LIB_DIR="/nowhere")
         self.assertEqual((status, output), (2, ""))
-        self.assertIn("`rt staticlib penne_c` makes it", error)
+        self.assertIn("`rt lib` in crates/penne_c makes it", error)

@@ -1,7 +1,7 @@
 /*
  * Reads `2 * (a + 1)` and prints its tree, each node below the one whose part it is.
  *
- *     cc -Iinclude rust/examples/c/tree.c target/staticlib/libpenne_c.a -o tree && ./tree
+ *     cc -Iinclude rust/examples/c/tree.c crates/penne_c/out/libpenne_c.a -o tree && ./tree
  */
 #include "penne.h"
 

@@ -362,7 +362,7 @@ impl Sample {
 }
 
 /// The program prints so many nodes one by one, and of more their number and
-/// a checksum, as crates/entry_rows/src/columns.rt says.
+/// a checksum, as crates/node_slots/src/lib.rt says.
 const PRINTED: usize = 512;
 
 fn told(nodes: &[(u8, u32)]) -> String {
