@@ -33,6 +33,34 @@ DASHED = "at-end before-end loads-kept no-ampersand no-bracket no-builtin no-ide
 # Lemmas of crates/rules/proofs that would have their definition's name, and the files that cite them.
 LEMMAS = "array_size inner_type joined_to next_bit step_end".split()
 CITES_LEMMAS = "crates/types/proofs/Bounds.antt"
+# Values in camel case, numbers of specs/ most of them, by the crate that alone has them. The new names stand nowhere else
+# in it, so that no parameter hides one. (Codes and limits that src/ has under the same name, as `Limit::Tokens`, keep it.)
+VALUES = {
+    "expressions": {"Operated": "operated"},
+    "reader": {"Temps": "temps"},
+    "buffer": {"Temps": "temps"},
+    "kinds": {
+        "Most": "most_without_top",
+        "Kinds": "kinds_a_word",
+        "Words": "words_a_turn",
+        "Tokens": "tokens_a_turn",
+        "Ones": "ones_of_a_word",
+        "Tops": "tops_of_a_word",
+    },
+    "replies": {"ReplyNumbers": "reply_numbers", "AcceptedCase": "accepted_case", "RefusedCase": "refused_case"},
+    "penne_nodes": {
+        "InputBytes": "input_bytes",
+        "ProgramSlots": "program_slots",
+        "Sizes": "sizes_before_kinds",
+        "ProgramTokens": "program_tokens",
+    },
+}
+# The numbers of these modules of specs/, which are always named with their module.
+LIMITS = {
+    "row_text": ("LineLimits", ("Tokens", "Room", "Slots", "Byte", "Times")),
+    "entry_rows": ("QuestionLimits", ("Tokens",)),
+    "node_slots": ("SlotLimits", ("Slots",)),
+}
 
 WORD = re.compile(r"(?<![\w'\-ʳˡ«])[A-Za-z_][\w']*(?:-[\w']+)*(?![\w'\-»])")
 STRING = re.compile(r'"(?:[^"\\]|\\.)*"')
@@ -52,6 +80,36 @@ def outside_strings(text, names):
         out += [respelled(text[at : m.start()], names), m.group(0)]
         at = m.end()
     return "".join(out + [respelled(text[at:], names)])
+
+
+def code_only(text, comment, change):
+    """The text with each line changed up to its comment."""
+    lines = []
+    for line in text.split("\n"):
+        at = line.find(comment)
+        lines.append(change(line) if at < 0 else change(line[:at]) + line[at:])
+    return "\n".join(lines)
+
+
+def numbered(path, text):
+    """The text of a file with the values respelled."""
+    comment = "--" if path.endswith(".antt") else "//"
+    crate = path.split("/")[1]
+    names = VALUES.get(crate, {})
+
+    def change(line):
+        # a module's name, as in `specs.Words.{..}`, stays
+        if line.lstrip().startswith(("mod ", "pub mod ")):
+            return line
+        line = re.sub(r"(?<![\w'.«])([A-Z]\w*)(?![\w'»]|\.[\w{])", lambda m: names.get(m.group(1), m.group(1)), line)
+        for module, numbers in LIMITS.values():
+            line = re.sub(rf"\b{module}\.({'|'.join(numbers)})\b", lambda m: f"{module}.{m.group(1).lower()}", line)
+        return line
+
+    own = [f"crates/{owner}/specs/{module}.antt" for owner, (module, _) in LIMITS.items()]
+    if path in own:
+        return code_only(text, comment, lambda line: re.sub(r"\b([A-Z]\w*)(?= [:=])", lambda m: m.group(1).lower(), line))
+    return code_only(text, comment, change)
 
 
 def documents():
@@ -82,8 +140,16 @@ def main():
         return 0 if sys.argv[1:] in (["--help"], ["-h"]) else 2
     names = {n: snake(n) for n in DEFINITIONS + DASHED} | OTHERWISE
     lemmas = {n: n + "_lem" for n in LEMMAS}
+    for path in sources():
+        with open(path, encoding="utf-8") as f:
+            old = f.read()
+        new = numbered(path, old)
+        if new != old:
+            with open(path, "w", encoding="utf-8") as f:
+                f.write(new)
+            print(f"respell: values in {path}")
     if not any(map(left, sources())):
-        print("respell: no file has a name to be respelled")
+        print("respell: no file has a definition to be respelled")
         return 0
     changed = 0
     for path in [*sources(), *documents()]:

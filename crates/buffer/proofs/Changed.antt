@@ -92,8 +92,8 @@ module _ (X : Extra) (Y : Way X) (#core : Callee) where
 
   -- the locals behind the parameters: the struct that is given, the words' pointer and the words, the record and the
   -- next one
-  abbrev Temps : ℕ → ℕ → ℕ → ℕ → ℕ → List (Ty × ℕ)
-  Temps lₛ l₁ l₂ l l₃ =
+  abbrev temps : ℕ → ℕ → ℕ → ℕ → ℕ → List (Ty × ℕ)
+  temps lₛ l₁ l₂ l l₃ =
       (mir_of Y.step, lₛ) ∷ (ty_ref erased mut (ty_int w32), l₁) ∷ (slice_ty (ty_ref erased mut (ty_int w32)), l₂)
       ∷ (P'.mir, l) ∷ (P'.mir, l₃) ∷ []
 
@@ -212,11 +212,11 @@ module _ (X : Extra) (Y : Way X) (#core : Callee) where
           enter ! C Λ function (vptr b o ∷ column ws ∷ cursor.val c ∷ flat (E.rows 2 κs X) vals.1.1.1) _ $
           alloc1 ! (λ i₀. alloc1 ! (λ i₁. alloc1 ! (λ i₂. alloc1 ! (λ i₃. E.allocs-extra 𝓛 X (λ bs.
           alloc1 ! (λ lₛ. alloc1 ! (λ l₁. alloc1 ! (λ l₂. alloc1 ! (λ l. alloc1 ! (λ l₃.
-          naming (E.behind 𝓤 H X bs (Temps lₛ l₁ l₂ l l₃)) (λ spot. alloc0 ! $ params1 ! $
+          naming (E.behind 𝓤 H X bs (temps lₛ l₁ l₂ l l₃)) (λ spot. alloc0 ! $ params1 ! $
           pass1 ! (init ! 15 refl (tt, tt)) $
           pass1 ! (init ! 13 refl ((mut_slice_Lawful 𝓛 (named 1) κ₁ u32).typed ws _ ws-is).0) $
           pass1 ! (init ! 11 refl (cursor.typed 𝓛 c _ c-is)) $ move ! (10 ∷ []) $
-          E.passes-extra 𝓛 2 κs X bs a x-is (Temps lₛ l₁ l₂ l l₃) $
+          E.passes-extra 𝓛 2 κs X bs a x-is (temps lₛ l₁ l₂ l l₃) $
           -- the borrow is opened
           move ! (20 ∷ []) $ fsplit ! $ fsplit3 ! $ drop ! $ move ! (22 ∷ []) $ split ! $ move ! (2 ∷ 3 ∷ 0 ∷ []) $
           opens-whole ! tt buffer h b o (λ was.
@@ -234,7 +234,7 @@ module _ (X : Extra) (Y : Way X) (#core : Callee) where
           calls_at ! fm (Passed X Y 𝓤 𝓛) known to (and_then ! (load ! (within ! (spot 2) (stop !)) (look ! 12 refl))
           (and_then ! (local ! 18 refl) (and_then ! (load ! (within ! (spot 3) (stop !)) (look ! 10 refl))
           (E.reads-extra 𝓛 1 (κ₁, tt) 4 7 X bs x refl (E.spots 𝓤 H X bs ((Y.answer.mir, i₀) ∷ (ref-type, i₁)
-          ∷ (slice_ty (ty_ref (named 1) mut (ty_int w32)), i₂) ∷ (cursor.mir, i₃) ∷ []) (Temps lₛ l₁ l₂ l l₃)))))) (λ u.
+          ∷ (slice_ty (ty_ref (named 1) mut (ty_int w32)), i₂) ∷ (cursor.mir, i₃) ∷ []) (temps lₛ l₁ l₂ l l₃)))))) (λ u.
           use1 𝓛 (later (some (λ (s : Y.step.row.Denot). (toks ⊛ ‵ (Y.step.row.own_val s (u ∷ [])))
           ⊛ raw (ensured 𝓛 (passed X Y) (passed-clauses X Y 𝓤) (κ₁, tt) given tt s)))) (id⊢ 𝓤 _) $
           await ! tt $ pick ! (λ s. split ! $ move ! (1 ∷ []) $

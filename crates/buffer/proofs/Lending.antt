@@ -89,8 +89,8 @@ module _ (X : Extra) (Y : Way X) (#core : Callee) where
     body = body;
   }
 
-  abbrev Temps : ℕ → ℕ → ℕ → ℕ → ℕ → ℕ → List (Ty × ℕ)
-  Temps lₜ lₐ lᵣ l₁ l₂ l =
+  abbrev temps : ℕ → ℕ → ℕ → ℕ → ℕ → ℕ → List (Ty × ℕ)
+  temps lₜ lₐ lᵣ l₁ l₂ l =
       (P'.mir, lₜ) ∷ (Y.answer.mir, lₐ) ∷ (ref-type, lᵣ) ∷ (ty_ref erased mut (ty_int w32), l₁)
       ∷ (slice_ty (ty_ref erased mut (ty_int w32)), l₂) ∷ (P'.mir, l) ∷ []
 
@@ -198,11 +198,11 @@ module _ (X : Extra) (Y : Way X) (#core : Callee) where
           enter ! C Λ function (column ws ∷ cursor.val c ∷ B.val h ∷ flat (E.rows 1 κs X) vals.1.1.1) _ $
           alloc1 ! (λ i₀. alloc1 ! (λ i₁. alloc1 ! (λ i₂. alloc1 ! (λ i₃. E.allocs-extra 𝓛 X (λ bs.
           alloc1 ! (λ lₜ. alloc1 ! (λ lₐ. alloc1 ! (λ lᵣ. alloc1 ! (λ l₁. alloc1 ! (λ l₂. alloc1 ! (λ l.
-          naming (E.behind 𝓤 H X bs (Temps lₜ lₐ lᵣ l₁ l₂ l)) (λ spot. alloc0 ! $ params1 ! $
+          naming (E.behind 𝓤 H X bs (temps lₜ lₐ lᵣ l₁ l₂ l)) (λ spot. alloc0 ! $ params1 ! $
           pass1 ! (init ! 17 refl ((mut_slice_Lawful 𝓛 (named 0) κ₁ u32).typed ws _ ws-is).0) $
           pass1 ! (init ! 15 refl (cursor.typed 𝓛 c _ c-is)) $
           pass1 ! (init ! 13 refl (B.typed 𝓛 h _ h-is)) $ move ! (12 ∷ []) $
-          E.passes-extra 𝓛 1 κs X bs a x-is (Temps lₜ lₐ lᵣ l₁ l₂ l) $
+          E.passes-extra 𝓛 1 κs X bs a x-is (temps lₜ lₐ lᵣ l₁ l₂ l) $
           assigns ! (of_opd ! (local ! 13 refl)) (within ! (spot 0) (stop !)) (init ! 11 refl (B.typed 𝓛 h _
           h-is)) $
           assigns ! (addr ! (within ! (spot 0) (stop !))) (within ! (spot 2) (stop !)) (init ! 7 refl (tt, tt)) $
@@ -222,7 +222,7 @@ module _ (X : Extra) (Y : Way X) (#core : Callee) where
           (look ! 10 refl)) (and_then ! (load ! (within ! (spot 4) (stop !)) (look ! 6 refl))
           (and_then ! (local ! 17 refl) (E.reads-extra 𝓛 2 (lfts lₜ ν γ) 4 3 X bs x refl (E.spots 𝓤 H X bs
           ((mir_of Y.step, i₀) ∷ (slice_ty (ty_ref (named 0) mut (ty_int w32)), i₁) ∷ (cursor.mir, i₂) ∷ (P'.mir, i₃)
-          ∷ []) (Temps lₜ lₐ lᵣ l₁ l₂ l)))))) (λ u.
+          ∷ []) (temps lₜ lₐ lᵣ l₁ l₂ l)))))) (λ u.
           use1 𝓛 (later (some (λ (r : Y.answer.row.Denot). ((‵ (flft (ν ∷ []) full_share) ⊛ toks)
           ⊛ ‵ (Y.answer.row.own_val r (u ∷ []))) ⊛ raw (ensured 𝓛 (lent X Y) (lent-clauses X Y 𝓤) (lfts lₜ ν γ)
           (given lₜ ν γ) tt r)))) (id⊢ 𝓤 _) $ await ! tt $ pick ! (λ r. split ! $ move ! (1 ∷ []) $

@@ -7,15 +7,15 @@ use Rattle.entry_rows.specs.declared.question.Row.{Row}
 
 -- the lengths of columns are within their limits
 pub record SizesFit (r : Sizes) : Type 0 where
-  pub slots : r.slots ≤ SlotLimits.Slots
-  pub loads : r.loads ≤ SlotLimits.Slots
-  pub types : r.types ≤ QuestionLimits.Tokens
+  pub slots : r.slots ≤ SlotLimits.slots
+  pub loads : r.loads ≤ SlotLimits.slots
+  pub types : r.types ≤ QuestionLimits.tokens
 
 -- So are those of a row, and its text is a part of the line. Whether the line is good, and which question, lengths and
 -- tokens it says, is free: the program's output shows it, a reply for each line.
 pub record Fits (line : List ℕ) (r : Row) : Type 0 where
   pub text : r.text ≤ length line
-  pub tokens : r.tokens ≤ QuestionLimits.Tokens
-  pub types : r.types ≤ QuestionLimits.Tokens
-  pub slots : r.slots ≤ SlotLimits.Slots
-  pub loads : r.loads ≤ SlotLimits.Slots
+  pub tokens : r.tokens ≤ QuestionLimits.tokens
+  pub types : r.types ≤ QuestionLimits.tokens
+  pub slots : r.slots ≤ SlotLimits.slots
+  pub loads : r.loads ≤ SlotLimits.slots

@@ -2,5 +2,5 @@
 use Rattle.std.specs.Prelude.{ℕ}
 
 -- the tokens of either column
-abbrev pub Tokens : ℕ
-Tokens = 65536
+abbrev pub tokens : ℕ
+tokens = 65536

@@ -68,7 +68,7 @@ fn show(
     node_kinds: &mut [u8],
     node_loads: &mut [u32],
 )
-    requires { (length node_kinds.old ≤ SlotLimits.Slots) × (length node_loads.old ≤ SlotLimits.Slots) }
+    requires { (length node_kinds.old ≤ SlotLimits.slots) × (length node_loads.old ≤ SlotLimits.slots) }
     ensures kinds { length node_kinds.new ≡ length node_kinds.old }
     ensures loads { length node_loads.new ≡ length node_loads.old }
 {
@@ -91,7 +91,7 @@ fn show(
 fn show_row(row: Row, kinds: &[u8], types: &[u8], node_kinds: &mut [u8], node_loads: &mut [u32])
     requires tokens_in_bounds { (row.tokens ≤ length kinds.now) × (row.types ≤ length types.now) }
     requires slots_in_bounds { (row.slots ≤ length node_kinds.old) × (row.loads ≤ length node_loads.old) }
-    requires slots_bound { (row.slots ≤ SlotLimits.Slots) × (row.loads ≤ SlotLimits.Slots) }
+    requires slots_bound { (row.slots ≤ SlotLimits.slots) × (row.loads ≤ SlotLimits.slots) }
     ensures kinds { length node_kinds.new ≡ length node_kinds.old }
     ensures loads { length node_loads.new ≡ length node_loads.old }
 {

@@ -140,7 +140,7 @@ fn read_question(line: &[u8], from: usize) -> AskedQuestion
 
 // The lengths, of a row with so many tokens.
 fn read_sizes(line: &[u8], from: usize, tokens: u32) -> Sizes
-    requires { (from ≤ length line.now) × (tokens ≤ QuestionLimits.Tokens) }
+    requires { (from ≤ length line.now) × (tokens ≤ QuestionLimits.tokens) }
     ensures { SizesFit result }
 {
     let slots = row_text::setting(line, from, b"slots", MOST_SLOTS, USUAL_SLOTS);

@@ -27,7 +27,7 @@ fn show(
     tokens: usize,
     slots: usize,
 )
-    requires { (tokens ≤ LineLimits.Tokens) × (slots ≤ LineLimits.Slots) }
+    requires { (tokens ≤ LineLimits.tokens) × (slots ≤ LineLimits.slots) }
 {
     let kinds: &[u8] = all_kinds;
     let types: &[u8] = all_types;

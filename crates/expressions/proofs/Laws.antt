@@ -153,18 +153,18 @@ followed {A} m f {c} {s} h = record { same = go (m c s).result (m c s).cursor (m
     go (no n x y) c s = refl
 
 -- the operand of a unary that is no size, and what follows it
-abbrev Operated : List ℕ → List ℕ → ℕ → ℕ → ℕ → Rule Words ℕ
-Operated tk tv u c t =
+abbrev operated : List ℕ → List ℕ → ℕ → ℕ → ℕ → Rule Words ℕ
+operated tk tv u c t =
     within (primary_or (eqb t BaseToken.Pipe)) u (row tk tv) >>= λ e. unary_end t c e (row tk tv)
 
 module _ (tk tv : List ℕ) (u c t : ℕ) (peeked : t ≡ kind_in tk c) {s : Words} where
-  piped : t ≡ BaseToken.Pipe → Onto (unaries u (row tk tv)) c s (Operated tk tv u c t) (prefix_end t c) s
+  piped : t ≡ BaseToken.Pipe → Onto (unaries u (row tk tv)) c s (operated tk tv u c t) (prefix_end t c) s
   unfolding unaries unary choose length_of within primary_or unary_end
   piped e = rw e (peeks _ _ (sym e ∙ peeked) then takes _ _ (sym e ∙ peeked))
 
   operator :
       {key op : ℕ} → Operator key op → t ≡ key →
-      Onto (unaries u (row tk tv)) c s (Operated tk tv u c t) (prefix_end t c) s
+      Onto (unaries u (row tk tv)) c s (operated tk tv u c t) (prefix_end t c) s
   unfolding unaries unary choose prefixed within primary_or unary_end
   operator complement e = rw e (peeks _ _ (sym e ∙ peeked) then at_here _ then takes _ _ (sym e ∙ peeked))
   operator negative e = rw e (peeks _ _ (sym e ∙ peeked) then at_here _ then takes _ _ (sym e ∙ peeked))
@@ -172,7 +172,7 @@ module _ (tk tv : List ℕ) (u c t : ℕ) (peeked : t ≡ kind_in tk c) {s : Wor
   -- a primary alone
   alone :
       (t ≡ BaseToken.PipeForType → ⊥) → NoPrefix t →
-      Onto (unaries u (row tk tv)) c s (Operated tk tv u c t) (prefix_end t c) s
+      Onto (unaries u (row tk tv)) c s (operated tk tv u c t) (prefix_end t c) s
   unfolding unaries unary within primary_or unary_end
   alone n h =
       rw (← prefix-none t c h, ne_eqb _ _ h.0.0.1)
@@ -329,7 +329,7 @@ module _ (tk tv : List ℕ) (u c t : ℕ) (peeked : t ≡ kind_in tk c) {s : Wor
   size-read e f = shows (peeks _ _ (sym e ∙ peeked)) f
 
   module _ (n : t ≡ BaseToken.PipeForType → ⊥) where
-    unary-on : Onto (unaries u (row tk tv)) c s (Operated tk tv u c t) (prefix_end t c) s
+    unary-on : Onto (unaries u (row tk tv)) c s (operated tk tv u c t) (prefix_end t c) s
     unary-on = by-pipe (eqb t BaseToken.Pipe) refl
       where
         no : {key : ℕ} → eqb t key ≡ false → t ≡ key → ⊥
@@ -337,19 +337,19 @@ module _ (tk tv : List ℕ) (u c t : ℕ) (peeked : t ≡ kind_in tk c) {s : Wor
 
         by-minus :
             (t ≡ BaseToken.Pipe → ⊥) → (t ≡ BaseToken.Exclamation → ⊥) → (b : Bool) → eqb t BaseToken.Minus ≡ b →
-            Onto (unaries u (row tk tv)) c s (Operated tk tv u c t) (prefix_end t c) s
+            Onto (unaries u (row tk tv)) c s (operated tk tv u c t) (prefix_end t c) s
         by-minus h h' true e = operator tk tv u c t peeked negative (eqb-true t _ e)
         by-minus h h' false e = alone tk tv u c t peeked n (((tt, h), h'), no e)
 
         by-exclamation :
             (t ≡ BaseToken.Pipe → ⊥) → (b : Bool) → eqb t BaseToken.Exclamation ≡ b →
-            Onto (unaries u (row tk tv)) c s (Operated tk tv u c t) (prefix_end t c) s
+            Onto (unaries u (row tk tv)) c s (operated tk tv u c t) (prefix_end t c) s
         by-exclamation h true e = operator tk tv u c t peeked complement (eqb-true t _ e)
         by-exclamation h false e = by-minus h (no e) (eqb t BaseToken.Minus) refl
 
         by-pipe :
             (b : Bool) → eqb t BaseToken.Pipe ≡ b →
-            Onto (unaries u (row tk tv)) c s (Operated tk tv u c t) (prefix_end t c) s
+            Onto (unaries u (row tk tv)) c s (operated tk tv u c t) (prefix_end t c) s
         by-pipe true e = piped tk tv u c t peeked (eqb-true t _ e)
         by-pipe false e = by-exclamation (no e) (eqb t BaseToken.Exclamation) refl
 

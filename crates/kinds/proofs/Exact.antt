@@ -3,8 +3,8 @@ use Rattle.std.proofs.Common.{◌≡◌, ℕ, zero, suc, ◌+◌, ◌-◌, ◌*�
 use lib.Arith.{digits_lt}
 use lib.Bits.{bit_and, bit_or, and_block, and_comm, and_shifted}
 use lib.ListN.{length-map}
-use Rattle.kinds.specs.Above.{Most, none_above}
-use Rattle.kinds.specs.Words.{number, Ones, Exact}
+use Rattle.kinds.specs.Above.{most_without_top, none_above}
+use Rattle.kinds.specs.Words.{number, ones_of_a_word, Exact}
 use Rattle.kinds.proofs.Bits.{zeros, masked}
 
 -- none of some kinds is above a limit
@@ -112,7 +112,7 @@ no-tops (kind ∷ kinds) h =
     ∙ ap₂ ◌&&◌ (top kind f) (no-tops kinds (others 255 kind kinds h))
 
 -- any number of bytes, of which none carries into the next: more is what is added to each
-module _ (limit more : ℕ) (e : limit + more ≡ Most) (kinds : List ℕ) (b : none_above 255 kinds ≡ true) where
+module _ (limit more : ℕ) (e : limit + more ≡ most_without_top) (kinds : List ℕ) (b : none_above 255 kinds ≡ true) where
   tops : ℕ
   tops = repeated 128 (length kinds)
 
@@ -147,11 +147,11 @@ module _ (limit more : ℕ) (e : limit + more ≡ Most) (kinds : List ℕ) (b : 
       by false h = rw (no-tops kinds b ∙ h) (sym (lower limit 127 kinds (omega arith) h))
 
 -- eight bytes
-pub exact : (limit : ℕ) → limit ≤ Most → Exact limit
+pub exact : (limit : ℕ) → limit ≤ most_without_top → Exact limit
 unfolding total tops repeated
 exact limit h kinds word l w =
-    let more = Most - limit in
-    let e : limit + more ≡ Most = omega arith in
-    let o : more * Ones ≡ repeated more 8 = omega arith in
+    let more = most_without_top - limit in
+    let e : limit + more ≡ most_without_top = omega arith in
+    let o : more * ones_of_a_word ≡ repeated more 8 = omega arith in
     let t = tested limit more e kinds w.bytes in
     rw (w.equal, o) (rw l at t)

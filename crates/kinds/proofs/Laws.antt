@@ -2,8 +2,8 @@
 use Rattle.std.proofs.Common.{◌≡◌, ℕ, zero, suc, ◌+◌, ◌-◌, ◌*◌, ◌%◌, ◌^◌, ◌<◌, ◌≤◌, max, Bool, true, false, not, ◌&&◌, eqb, ltb, leb, List, [], ◌∷◌, ◌++◌, length, get_or, take, drop, set, replicate, sym, refl, ap, ◌∙◌, ap₂, mul_assoc, add-one, arith, lit<, length-drop, take-append-drop, drop_of_length-le, length-take-le, get_or-drop, take_all, drop-cons, take-suc, take-add, shl_exact, ltb-false, ltb-true, le-ltb, lt-ltb, eq-eqb, ne_eqb, le-leb}
 use lib.Bits.{bit_and, bit_or, or_shifted_r}
 use borrow.Author.Tests.{lt-leb}
-use Rattle.kinds.specs.Above.{Most, none_above, Alike}
-use Rattle.kinds.specs.Words.{number, Holds, Ones, Tops, sum, clear, Clear, Joined}
+use Rattle.kinds.specs.Above.{most_without_top, none_above, Alike}
+use Rattle.kinds.specs.Words.{number, Holds, ones_of_a_word, tops_of_a_word, sum, clear, Clear, Joined}
 use Rattle.kinds.proofs.Bits.{masked}
 use Rattle.kinds.proofs.Lanes.{and_assoc, and-true, and-swap, put, one-next, one_more}
 use Rattle.kinds.proofs.Exact.{first, others, exact, one_byte, fits}
@@ -199,11 +199,11 @@ no-clear tops sums = record { same = refl }
 
 clear_next :
     (words : List ℕ) (n : ℕ) → n < length words →
-    clear (take (n + 1) words) ≡ clear (take n words) && eqb (bit_and (get_or words n 0) Tops) 0
+    clear (take (n + 1) words) ≡ clear (take n words) && eqb (bit_and (get_or words n 0) tops_of_a_word) 0
 unfolding clear
 clear_next words n h =
     ap (λ (m : ℕ). clear (take m words)) (add-one n)
-    ∙ one-next (λ (y : ℕ). eqb (bit_and y Tops) 0) clear refl (λ y ys. refl) words n h
+    ∙ one-next (λ (y : ℕ). eqb (bit_and y tops_of_a_word) 0) clear refl (λ y ys. refl) words n h
 
 pub one-clear :
     {all n : ℕ} {tops sums : List ℕ} → Clear all n tops sums → n < length tops → n < length sums →
@@ -211,13 +211,13 @@ pub one-clear :
 one-clear {all} {n} {tops} {sums} f t s =
     let x = get_or tops n 0 in
     let y = get_or sums n 0 in
-    let p = eqb (bit_and x Tops) 0 in
-    let q = eqb (bit_and y Tops) 0 in
+    let p = eqb (bit_and x tops_of_a_word) 0 in
+    let q = eqb (bit_and y tops_of_a_word) 0 in
     let a = clear (take n tops) in
     let b = clear (take n sums) in
     record {
       same =
-          masked (bit_or all x) y Tops ∙ ap (λ (c : Bool). c && q) (masked all x Tops)
+          masked (bit_or all x) y tops_of_a_word ∙ ap (λ (c : Bool). c && q) (masked all x tops_of_a_word)
           ∙ ap (λ (c : Bool). (c && p) && q) f.same
           ∙ and_assoc (a && b) p q
           ∙ and-swap a b p q
@@ -231,23 +231,23 @@ clear-ends {lane = lane} {lanes = lanes} f a b = let e : lanes ≡ lane = omega 
 
 -- what is added to a word
 pub summed :
-    (limit word : ℕ) {given : ℕ} → given ≡ limit → {r : ℕ} → r ≡ (word + (Most - given) * Ones) % 2 ^ 64 →
+    (limit word : ℕ) {given : ℕ} → given ≡ limit → {r : ℕ} → r ≡ (word + (most_without_top - given) * ones_of_a_word) % 2 ^ 64 →
     r ≡ sum limit word
 summed limit word e f = f ∙ rw e refl
 
 -- so many words of a row are put together, and their sums: they pass the test exactly where no kind is above the limit
 module _
-    {limit : ℕ} {kinds tops sums : List ℕ} {n : ℕ} (f : Joined limit n kinds tops sums) (h : limit < Most)
+    {limit : ℕ} {kinds tops sums : List ℕ} {n : ℕ} (f : Joined limit n kinds tops sums) (h : limit < most_without_top)
     (b : n + 8 ≤ length kinds) {lane : ℕ} (t : lane < length tops) (s : lane < length sums) {word other : ℕ}
     (w : Holds (take 8 (drop n kinds)) word) (e : other ≡ sum limit word) where
   eight : length (take 8 (drop n kinds)) ≡ 8
   eight = length-take-le 8 (drop n kinds) (simp length-drop (omega arith))
 
   joins : (xs : List ℕ) → lane < length xs → (x : ℕ) →
-      clear (set xs lane (bit_or (get_or xs lane 0) x)) ≡ clear xs && eqb (bit_and x Tops) 0
+      clear (set xs lane (bit_or (get_or xs lane 0) x)) ≡ clear xs && eqb (bit_and x tops_of_a_word) 0
   unfolding clear
   joins xs l x =
-      put (λ (y : ℕ). eqb (bit_and y Tops) 0) clear refl (λ y ys. refl) bit_or (λ y z. masked y z Tops) xs lane l x
+      put (λ (y : ℕ). eqb (bit_and y tops_of_a_word) 0) clear refl (λ y ys. refl) bit_or (λ y z. masked y z tops_of_a_word) xs lane l x
 
   pub one_word :
       Joined limit (n + 8) kinds (set tops lane (bit_or (get_or tops lane 0) word))
@@ -256,8 +256,8 @@ module _
       record {
         answer =
             ap₂ ◌&&◌ (joins tops t word) (joins sums s other)
-            ∙ and-swap (clear tops) (eqb (bit_and word Tops) 0) (clear sums) (eqb (bit_and other Tops) 0)
-            ∙ ap₂ ◌&&◌ f.answer (sym (masked word other Tops)
+            ∙ and-swap (clear tops) (eqb (bit_and word tops_of_a_word) 0) (clear sums) (eqb (bit_and other tops_of_a_word) 0)
+            ∙ ap₂ ◌&&◌ f.answer (sym (masked word other tops_of_a_word)
             ∙ rw e (exact limit (omega arith) (take 8 (drop n kinds)) word eight w))
             ∙ sym (none-append limit (take n kinds) (take 8 (drop n kinds)))
             ∙ ap (none_above limit) (sym (take-add n 8 kinds));
@@ -270,7 +270,7 @@ words-begin {n = n} f = let e : n + 0 * 8 ≡ n = omega arith in rw e f
 module _
     (place lane : ℕ) {limit : ℕ} {kinds tops sums : List ℕ} (f : Joined limit (place + lane * 8) kinds tops sums) where
   pub next_word :
-      limit < Most → {lanes : ℕ} → lane < lanes → place + lanes * 8 ≤ length kinds → lane < length tops →
+      limit < most_without_top → {lanes : ℕ} → lane < lanes → place + lanes * 8 ≤ length kinds → lane < length tops →
       lane < length sums → {word other : ℕ} → Holds (take 8 (drop (place + lane * 8) kinds)) word →
       other ≡ sum limit word →
       Joined limit (place + (lane + 1) * 8) kinds (set tops lane (bit_or (get_or tops lane 0) word))
@@ -289,7 +289,7 @@ no_word limit kinds = record { answer = refl }
 
 pub one_word_more :
     {limit done words : ℕ} {kinds : List ℕ} {tops sums : ℕ} → Joined limit (done * 8) kinds (tops ∷ []) (sums ∷ []) →
-    limit < Most → done < words → words * 8 ≤ length kinds → {word other : ℕ} →
+    limit < most_without_top → done < words → words * 8 ≤ length kinds → {word other : ℕ} →
     Holds (take 8 (drop (done * 8) kinds)) word → other ≡ sum limit word →
     Joined limit ((done + 1) * 8) kinds (bit_or tops word ∷ []) (bit_or sums other ∷ [])
 one_word_more {done = done} f h l b w e =
@@ -299,13 +299,13 @@ one_word_more {done = done} f h l b w e =
 pub words-end :
     {limit done words : ℕ} {kinds : List ℕ} {tops sums : ℕ} → Joined limit (done * 8) kinds (tops ∷ []) (sums ∷ []) →
     done ≤ words → words ≤ done →
-    eqb (bit_and (bit_or tops sums) Tops) 0 ≡ none_above limit (take (words * 8) kinds)
+    eqb (bit_and (bit_or tops sums) tops_of_a_word) 0 ≡ none_above limit (take (words * 8) kinds)
 unfolding clear
 words-end {done = done} {words = words} {tops = tops} {sums = sums} f a b =
     let e : words ≡ done = omega arith in
-    let p = eqb (bit_and tops Tops) 0 in
-    let q = eqb (bit_and sums Tops) 0 in
-    rw e (masked tops sums Tops ∙ ap₂ ◌&&◌ (sym (and-true p)) (sym (and-true q)) ∙ f.answer)
+    let p = eqb (bit_and tops tops_of_a_word) 0 in
+    let q = eqb (bit_and sums tops_of_a_word) 0 in
+    rw e (masked tops sums tops_of_a_word ∙ ap₂ ◌&&◌ (sym (and-true p)) (sym (and-true q)) ∙ f.answer)
 
 -- thirty-two tokens at a time
 pub block_room : {done blocks n : ℕ} → done < blocks → blocks * 32 ≤ n → done * 32 + 32 ≤ n
@@ -360,7 +360,7 @@ module _
   all_done : blocks ≡ done
   all_done = omega arith
 
-  words-known : eqb (bit_and word Tops) 0 ≡ none_above limit (take (blocks * 32) kinds)
+  words-known : eqb (bit_and word tops_of_a_word) 0 ≡ none_above limit (take (blocks * 32) kinds)
   words-known =
       rw all_done
       (c.same
@@ -369,18 +369,18 @@ module _
 
   module _ (other : ℕ) where
     pub blocks-fail :
-        (bit_and word Tops ≡ 0 → ⊥) →
-        eqb (bit_and word Tops) 0 ≡
+        (bit_and word tops_of_a_word ≡ 0 → ⊥) →
+        eqb (bit_and word tops_of_a_word) 0 ≡
         none_above limit (take (blocks * 32) kinds) && none_above other (take (blocks * 32) types)
     blocks-fail h =
-        let e = ne_eqb (bit_and word Tops) 0 h in
+        let e = ne_eqb (bit_and word tops_of_a_word) 0 h in
         e ∙ sym (rw (sym words-known ∙ e) refl)
 
     pub blocks-known :
-        bit_and word Tops ≡ 0 → {m : ℕ} → Alike (m ∷ []) (length most) most →
+        bit_and word tops_of_a_word ≡ 0 → {m : ℕ} → Alike (m ∷ []) (length most) most →
         leb m other ≡ none_above limit (take (blocks * 32) kinds) && none_above other (take (blocks * 32) types)
     blocks-known h k =
-        let e = eq-eqb (bit_and word Tops) 0 h in
+        let e = eq-eqb (bit_and word tops_of_a_word) 0 h in
         let i : none_above other (take (done * 32) types) ≡ none_above other (take (blocks * 32) types) = rw all_done refl in
         largest-at other k ∙ g.same other ∙ i ∙ sym (rw (sym words-known ∙ e) refl)
 

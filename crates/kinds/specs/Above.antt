@@ -2,8 +2,8 @@
 use Rattle.std.specs.Prelude.{◌≡◌, ℕ, Bool, true, not, ◌&&◌, List, [], ◌∷◌, take, nat_lt}
 
 -- the largest byte without a top bit
-abbrev pub Most : ℕ
-Most = 127
+abbrev pub most_without_top : ℕ
+most_without_top = 127
 
 -- No kind is above the limit.
 unfoldable pub none_above : ℕ → List ℕ → Bool

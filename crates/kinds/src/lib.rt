@@ -4,9 +4,9 @@
 #![tactic(auto)]
 
 ghost use Rattle.std.specs.Prelude.{◌≡◌, ◌+◌, ◌*◌, ◌<◌, ◌≤◌, max, ◌&&◌, [], ◌∷◌, length, take, drop};
-ghost use Rattle.kinds.specs.Above.{Most, none_above, Alike};
+ghost use Rattle.kinds.specs.Above.{most_without_top, none_above, Alike};
 ghost use Rattle.kinds.specs.Words as Test;
-ghost use Rattle.kinds.specs.Words.{Holds, Kinds, Words, Tokens, Clear, Joined};
+ghost use Rattle.kinds.specs.Words.{Holds, kinds_a_word, words_a_turn, tokens_a_turn, Clear, Joined};
 
 // How many kinds a word has, or value types.
 const KINDS: usize = 8;
@@ -54,8 +54,8 @@ fn largest(column: &[u8]) -> u8
 
 // The eight bytes of a column from a place on, the first in the lowest byte. It is compiled to one load.
 fn word(column: &[u8], place: usize) -> u64
-    requires { place + Kinds ≤ length column.now }
-    ensures { Holds (take Kinds (drop place column.now)) result }
+    requires { place + kinds_a_word ≤ length column.now }
+    ensures { Holds (take kinds_a_word (drop place column.now)) result }
 {
     wide(column[place])
         | (wide(column[place + 1]) << 8)
@@ -69,7 +69,7 @@ fn word(column: &[u8], place: usize) -> u64
 
 // A word with so much added to each byte that one above the limit gets its top bit set.
 fn sum(word: u64, limit: u8) -> u64
-    requires { limit < Most }
+    requires { limit < most_without_top }
     ensures { result ≡ Test.sum limit word }
 {
     let added = (MOST - wide(limit)) * ONES;
@@ -79,8 +79,8 @@ fn sum(word: u64, limit: u8) -> u64
 // Whether so many words pass their tests: no top bit is set, neither in a word nor in its sum. All words are put
 // together first, and so are their sums.
 fn words_pass(column: &[u8], words: usize, limit: u8) -> bool
-    requires { (words * Kinds ≤ length column.now) × (limit < Most) }
-    ensures { result ≡ none_above limit (take (words * Kinds) column.now) }
+    requires { (words * kinds_a_word ≤ length column.now) × (limit < most_without_top) }
+    ensures { result ≡ none_above limit (take (words * kinds_a_word) column.now) }
 {
     let mut tops: u64 = 0;
     let mut sums: u64 = 0;
@@ -110,7 +110,7 @@ fn rest_passes(column: &[u8], from: usize, limit: u8) -> bool
 
 // Whether no byte of a column is above the limit.
 fn none_above(column: &[u8], limit: u8) -> bool
-    requires { limit < Most }
+    requires { limit < most_without_top }
     ensures { result ≡ none_above limit column.now }
 {
     let words = column.len() / KINDS;
@@ -120,8 +120,8 @@ fn none_above(column: &[u8], limit: u8) -> bool
 // Four words from a place on. Each has a lane, a place of its own in a turn, where it is put together with those of the
 // turns before it, and so are their sums.
 fn join_words(kinds: &[u8], place: usize, limit: u8, tops: &mut [u64], sums: &mut [u64])
-    requires { (place + Tokens ≤ length kinds.now) × (limit < Most) × (length tops.old ≡ Words) × (length sums.old ≡ Words) × Joined limit place kinds.now tops.old sums.old }
-    ensures { Joined limit (place + Tokens) kinds.now tops.new sums.new }
+    requires { (place + tokens_a_turn ≤ length kinds.now) × (limit < most_without_top) × (length tops.old ≡ words_a_turn) × (length sums.old ≡ words_a_turn) × Joined limit place kinds.now tops.old sums.old }
+    ensures { Joined limit (place + tokens_a_turn) kinds.now tops.new sums.new }
 {
     let mut lane: usize = 0;
     while lane < WORDS {
@@ -134,8 +134,8 @@ fn join_words(kinds: &[u8], place: usize, limit: u8, tops: &mut [u64], sums: &mu
 
 // Thirty-two value types from a place on. Each has a lane, which holds the largest of those of the turns so far.
 fn join_types(types: &[u8], place: usize, most: &mut [u8])
-    requires { (place + Tokens ≤ length types.now) × (length most.old ≡ Tokens) × Alike most.old place types.now }
-    ensures { Alike most.new (place + Tokens) types.now }
+    requires { (place + tokens_a_turn ≤ length types.now) × (length most.old ≡ tokens_a_turn) × Alike most.old place types.now }
+    ensures { Alike most.new (place + tokens_a_turn) types.now }
 {
     let mut lane: usize = 0;
     while lane < TOKENS {
@@ -146,8 +146,8 @@ fn join_types(types: &[u8], place: usize, most: &mut [u8])
 
 // The words of all lanes put together, and their sums.
 fn joined(tops: &[u64], sums: &[u64]) -> u64
-    requires { (length tops.now ≡ Words) × (length sums.now ≡ Words) }
-    ensures { Clear result Words tops.now sums.now }
+    requires { (length tops.now ≡ words_a_turn) × (length sums.now ≡ words_a_turn) }
+    ensures { Clear result words_a_turn tops.now sums.now }
 {
     let mut all: u64 = 0;
     let mut lane: usize = 0;
@@ -161,8 +161,8 @@ fn joined(tops: &[u64], sums: &[u64]) -> u64
 // Whether so many times thirty-two tokens pass. The lanes are kept from turn to turn in a loop that has no way out but its
 // end: it is compiled to vector instructions.
 fn blocks_pass(kinds: &[u8], types: &[u8], blocks: usize, limit: u8, type_limit: u8) -> bool
-    requires { (blocks * Tokens ≤ length kinds.now) × (blocks * Tokens ≤ length types.now) × (limit < Most) }
-    ensures { result ≡ none_above limit (take (blocks * Tokens) kinds.now) && none_above type_limit (take (blocks * Tokens) types.now) }
+    requires { (blocks * tokens_a_turn ≤ length kinds.now) × (blocks * tokens_a_turn ≤ length types.now) × (limit < most_without_top) }
+    ensures { result ≡ none_above limit (take (blocks * tokens_a_turn) kinds.now) && none_above type_limit (take (blocks * tokens_a_turn) types.now) }
 {
     if blocks == 0 {
         return true;
@@ -182,7 +182,7 @@ fn blocks_pass(kinds: &[u8], types: &[u8], blocks: usize, limit: u8, type_limit:
 // Whether the tokens from a place on pass. They are few, so that their value types take fewer instructions by words than
 // by their largest.
 fn rest_tokens_pass(kinds: &[u8], types: &[u8], from: usize, limit: u8, type_limit: u8) -> bool
-    requires { (from ≤ length kinds.now) × (from ≤ length types.now) × (limit < Most) × (type_limit < Most) }
+    requires { (from ≤ length kinds.now) × (from ≤ length types.now) × (limit < most_without_top) × (type_limit < most_without_top) }
     ensures { result ≡ none_above limit (drop from kinds.now) && none_above type_limit (drop from types.now) }
 {
     none_above(&kinds[from..], limit) && none_above(&types[from..], type_limit)
@@ -190,7 +190,7 @@ fn rest_tokens_pass(kinds: &[u8], types: &[u8], from: usize, limit: u8, type_lim
 
 // Whether no kind is above its limit, and no value type above its own.
 pub fn tokens_pass(kinds: &[u8], types: &[u8], limit: u8, type_limit: u8) -> bool
-    requires { (length types.now ≡ length kinds.now) × (limit < Most) × (type_limit < Most) }
+    requires { (length types.now ≡ length kinds.now) × (limit < most_without_top) × (type_limit < most_without_top) }
     ensures { result ≡ none_above limit kinds.now && none_above type_limit types.now }
 {
     let blocks = kinds.len() / TOKENS;

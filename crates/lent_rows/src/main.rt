@@ -71,7 +71,7 @@ fn print_token(first: bool, kind: u8, ended: Numbers) {
 // The token at a place, looked at, taken and as a list's end, by the reader and by the core. The result is the next
 // place.
 fn show_token<'a>(kinds: &'a [u8], types: &'a [u8], at: u32, closing: u8) -> u32
-    requires { at ≤ LineLimits.Tokens }
+    requires { at ≤ LineLimits.tokens }
     ensures { result ≡ at + 1 }
 {
     let cursor = TokenId(at);
@@ -93,7 +93,7 @@ fn show_token<'a>(kinds: &'a [u8], types: &'a [u8], at: u32, closing: u8) -> u32
 
 // The tokens of a row, one after another.
 fn show_tokens<'a>(kinds: &'a [u8], types: &'a [u8], closing: u8)
-    requires { length kinds.now ≤ LineLimits.Tokens }
+    requires { length kinds.now ≤ LineLimits.tokens }
 {
     let mut at: u32 = 0;
     while (at as usize) < kinds.len() {
@@ -104,7 +104,7 @@ fn show_tokens<'a>(kinds: &'a [u8], types: &'a [u8], closing: u8)
 
 // The first tokens of the two columns.
 fn show<'a>(all_kinds: &'a [u8; TOKENS], all_types: &'a [u8; TOKENS], tokens: usize, closing: u8)
-    requires { tokens ≤ LineLimits.Tokens }
+    requires { tokens ≤ LineLimits.tokens }
 {
     let kinds: &[u8] = all_kinds;
     let types: &[u8] = all_types;

@@ -2,5 +2,5 @@
 use Rattle.std.specs.Prelude.{ℕ}
 
 -- its slots
-abbrev pub Slots : ℕ
-Slots = 131076
+abbrev pub slots : ℕ
+slots = 131076

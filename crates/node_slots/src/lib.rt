@@ -40,7 +40,7 @@ fn old_kind(slot: usize) -> u8
 
 // What a slot of the loads holds before the call.
 fn old_load(slot: usize) -> u32
-    requires { slot < SlotLimits.Slots }
+    requires { slot < SlotLimits.slots }
     ensures { result ≡ old_load slot }
 {
     FIRST_LOAD + slot as u32
@@ -60,7 +60,7 @@ pub fn fill_kinds(column: &mut [u8])
 
 // Every slot of the loads holds what it holds before a call.
 pub fn fill_loads(column: &mut [u32])
-    requires { length column.old ≤ SlotLimits.Slots }
+    requires { length column.old ≤ SlotLimits.slots }
     ensures column_len_unchanged { length column.new ≡ length column.old }
     ensures filled { Filled old_load column.new (length column.old) }
 {
@@ -100,7 +100,7 @@ pub fn kinds_kept(column: &[u8], given: usize, replied: usize) -> bool
 }
 
 pub fn loads_kept(column: &[u32], given: usize, replied: usize) -> bool
-    requires { length column.now ≤ SlotLimits.Slots }
+    requires { length column.now ≤ SlotLimits.slots }
     ensures { result ≡ kept_from old_load column.now given replied 0 (length column.now) }
 {
     let mut slot: usize = 0;

@@ -23,8 +23,8 @@ use Rattle.rules.specs.Reading.{Rule, Row}
 use Rattle.rules.specs.Trees.{Tree, trees}
 use Rattle.penne_nodes.specs.declared.input.Input.{Input}
 use Rattle.penne_nodes.specs.declared.input.Input.TheVariants.{Ended}
-use Rattle.penne_nodes.specs.Filled.{InputBytes, Filled}
-use Rattle.penne_nodes.specs.Input.{ProgramSlots, Sizes, ProgramTokens, size_at, bad, asking, asked, tokens_of, cursor_in}
+use Rattle.penne_nodes.specs.Filled.{input_bytes, Filled}
+use Rattle.penne_nodes.specs.Input.{program_slots, sizes_before_kinds, program_tokens, size_at, bad, asking, asked, tokens_of, cursor_in}
 use Rattle.penne_nodes.specs.Output.{parse, shown, output, columns_after, Answers}
 use Rattle.node_text.specs.Text.{bad_file, reply, lines}
 use Rattle.node_text.specs.Puts.{Puts, Room}
@@ -39,21 +39,21 @@ size-of bytes at e f g h = rw (e, f, g, h) refl
 
 -- a bad file, by its tests in their order
 module _ (bytes : List ℕ) where
-  pub no-sizes : length bytes < Sizes → true ≡ bad bytes
+  pub no-sizes : length bytes < sizes_before_kinds → true ≡ bad bytes
   unfolding bad
   no-sizes h = rw (lt-ltb _ _ h) refl
 
-  module _ (h : Sizes ≤ length bytes) {n : ℕ} (e : n ≡ size_at bytes 0) where
-    pub too-many-tokens : ProgramTokens < n → true ≡ bad bytes
+  module _ (h : sizes_before_kinds ≤ length bytes) {n : ℕ} (e : n ≡ size_at bytes 0) where
+    pub too-many-tokens : program_tokens < n → true ≡ bad bytes
     unfolding bad
     too-many-tokens b = rw (le-ltb _ _ h, ← e, lt-ltb _ _ b) refl
 
-    module _ (b : n ≤ ProgramTokens) where
-      pub other_length : (length bytes ≡ Sizes + n + n → ⊥) → true ≡ bad bytes
+    module _ (b : n ≤ program_tokens) where
+      pub other_length : (length bytes ≡ sizes_before_kinds + n + n → ⊥) → true ≡ bad bytes
       unfolding bad
       other_length d = rw (le-ltb _ _ h, ← e, le-ltb _ _ b, ne_eqb _ _ d) refl
 
-      pub entry-tested : length bytes ≡ Sizes + n + n → {m : ℕ} → m ≡ size_at bytes 8 → ltb 1 m ≡ bad bytes
+      pub entry-tested : length bytes ≡ sizes_before_kinds + n + n → {m : ℕ} → m ≡ size_at bytes 8 → ltb 1 m ≡ bad bytes
       unfolding bad
       entry-tested d f = rw (le-ltb _ _ h, ← e, ← f, le-ltb _ _ b, eq-eqb _ _ d) refl
 
@@ -70,42 +70,42 @@ module _ (bytes : List ℕ) {b : Bool} (e : b ≡ bad bytes) where
 
 -- what an input is that is not bad
 pub record Good (bytes : List ℕ) : Type 0 where
-  pub sizes : Sizes ≤ length bytes
-  pub tokens : tokens_of bytes ≤ ProgramTokens
-  pub all : length bytes ≡ Sizes + tokens_of bytes + tokens_of bytes
+  pub sizes : sizes_before_kinds ≤ length bytes
+  pub tokens : tokens_of bytes ≤ program_tokens
+  pub all : length bytes ≡ sizes_before_kinds + tokens_of bytes + tokens_of bytes
 
 pub good : {bytes : List ℕ} → bad bytes ≡ false → Good bytes
 unfolding bad
 good {bytes} e =
-    let (a, f) = neither (ltb (length bytes) Sizes) _ e in
-    let (b, g) = neither (ltb ProgramTokens (tokens_of bytes)) _ f in
-    let (c, _) = neither (unequal (length bytes) (Sizes + tokens_of bytes + tokens_of bytes)) _ g in
+    let (a, f) = neither (ltb (length bytes) sizes_before_kinds) _ e in
+    let (b, g) = neither (ltb program_tokens (tokens_of bytes)) _ f in
+    let (c, _) = neither (unequal (length bytes) (sizes_before_kinds + tokens_of bytes + tokens_of bytes)) _ g in
     record { sizes = ltb-false _ _ a; tokens = ltb-false _ _ b; all = same _ _ c }
 
 module _ (bytes : List ℕ) (e : false ≡ bad bytes) where
-  pub size-there : {m : ℕ} → m ≤ Sizes → m ≤ length bytes
+  pub size-there : {m : ℕ} → m ≤ sizes_before_kinds → m ≤ length bytes
   size-there h = let s = (good (sym e)).sizes in omega arith
 
   module _ {n : ℕ} (f : n ≡ size_at bytes 0) where
-    pub kinds-there : Sizes + n ≤ length bytes
+    pub kinds-there : sizes_before_kinds + n ≤ length bytes
     kinds-there = let s = (good (sym e)).all in omega arith
 
-    pub types-there : Sizes + n + n ≤ length bytes
+    pub types-there : sizes_before_kinds + n + n ≤ length bytes
     types-there = let s = (good (sym e)).all in omega arith
 
 -- the entry that is asked for
-module _ {ks ls : List ℕ} (u : length ks ≡ ProgramSlots) (v : length ls ≡ ProgramSlots) {r : Parsed} {ks' ls' : List ℕ} where
+module _ {ks ls : List ℕ} (u : length ks ≡ program_slots) (v : length ls ≡ program_slots) {r : Parsed} {ks' ls' : List ℕ} where
   sized :
       (R : Row) (c : ℕ) (m : Rule Nodes ℕ) (q : Rule (Unit {0}) Tree) →
       Promise (length R.kinds) (input_check R c (length ks) (length ls) 0) m q c (nodes ks ls 0) r ks' ls' →
-      Parses (checked (input_check R c ProgramSlots ProgramSlots 0) m) c ks ls r ks' ls'
+      Parses (checked (input_check R c program_slots program_slots 0) m) c ks ls r ks' ls'
   sized R c m q p =
       let G : ℕ → ℕ → Type 0 = λ a b. Gives (checked (input_check R c a b 0) m) c (nodes ks ls 0) r ks' ls' in
       let a = p.frame.fits (omega arith) in
       let b = p.frame.kinds_kept in
       let d = p.frame.loads_kept in
       record {
-        gives = subst (λ (a : ℕ). G a ProgramSlots) u (subst (λ (b : ℕ). G (length ks) b) v p.equal);
+        gives = subst (λ (a : ℕ). G a program_slots) u (subst (λ (b : ℕ). G (length ks) b) v p.equal);
         fits = record { count = omega arith; kinds = b ∙ u; loads = d ∙ v };
       }
 
@@ -123,15 +123,15 @@ module _ {ks ls : List ℕ} (u : length ks ≡ ProgramSlots) (v : length ls ≡ 
 pub input-asked :
     (bytes : List ℕ) {n c e : ℕ} → n ≡ size_at bytes 0 → c ≡ size_at bytes 4 → e ≡ size_at bytes 8 →
     {ks ls : List ℕ} {r : Parsed} {ks' ls' : List ℕ} →
-    Parses (asking (row (take ((Sizes + n) - Sizes) (drop Sizes bytes))
-    (take ((Sizes + n + n) - (Sizes + n)) (drop (Sizes + n) bytes))) c e) c ks ls r ks' ls' →
+    Parses (asking (row (take ((sizes_before_kinds + n) - sizes_before_kinds) (drop sizes_before_kinds bytes))
+    (take ((sizes_before_kinds + n + n) - (sizes_before_kinds + n)) (drop (sizes_before_kinds + n) bytes))) c e) c ks ls r ks' ls' →
     Parses (asked bytes) (cursor_in bytes) ks ls r ks' ls'
 input-asked bytes {n} {c} {e} f g h {ks} {ls} {r} {ks'} {ls'} p =
-    let a : (Sizes + n) - Sizes ≡ n = omega arith in
-    let b : (Sizes + n + n) - (Sizes + n) ≡ n = omega arith in
+    let a : (sizes_before_kinds + n) - sizes_before_kinds ≡ n = omega arith in
+    let b : (sizes_before_kinds + n + n) - (sizes_before_kinds + n) ≡ n = omega arith in
     let P : ℕ → ℕ → Type 0 = λ i j.
-    Parses (asking (row (take i (drop Sizes bytes)) (take j (drop (Sizes + n) bytes))) c e) c ks ls r ks' ls' in
-    let q : P n n = subst (λ (i : ℕ). P i n) a (subst (λ (j : ℕ). P ((Sizes + n) - Sizes) j) b p) in
+    Parses (asking (row (take i (drop sizes_before_kinds bytes)) (take j (drop (sizes_before_kinds + n) bytes))) c e) c ks ls r ks' ls' in
+    let q : P n n = subst (λ (i : ℕ). P i n) a (subst (λ (j : ℕ). P ((sizes_before_kinds + n) - sizes_before_kinds) j) b p) in
     rw (← f, ← g, ← h) q
 
 -- the reply and the nodes
@@ -154,7 +154,7 @@ module _ (r : Parsed) {ks ls : List ℕ} (f : Fits r ks ls) {n : ℕ} (e : n ≡
       omega arith
 
   pub nodes-room :
-      {xs ys : List ℕ} {p : ℕ} → Puts xs 0 (reply r) ys p → Room xs 0 (64 + 33 * ProgramSlots) → Room ys p (33 * n)
+      {xs ys : List ℕ} {p : ℕ} → Puts xs 0 (reply r) ys p → Room xs 0 (64 + 33 * program_slots) → Room ys p (33 * n)
   nodes-room p h = let a = f.count in room (reply-short r) p h (omega arith)
 
 -- the output and the columns, by whether the file is bad
@@ -181,7 +181,7 @@ module _ (bytes : List ℕ) {xs ys : List ℕ} {end : ℕ} where
 
 -- what was read is a part of the buffer
 pub start-counts :
-    (bytes : List ℕ) {i : Input} {n : ℕ} → i ≡ Ended n → Filled i → length bytes ≡ InputBytes → n ≡ length (take n bytes)
+    (bytes : List ℕ) {i : Input} {n : ℕ} → i ≡ Ended n → Filled i → length bytes ≡ input_bytes → n ≡ length (take n bytes)
 start-counts bytes e f h =
-    let g : _ ≤ InputBytes = subst Filled e f in
+    let g : _ ≤ input_bytes = subst Filled e f in
     simp length-take (omega arith)

@@ -4,9 +4,9 @@ use Rattle.penne_nodes.specs.declared.input.Input.{Input}
 use Rattle.penne_nodes.specs.declared.input.Input.TheVariants.{Ended, Failed}
 
 -- the places of the buffer
-abbrev pub InputBytes : ℕ
-InputBytes = 8205
+abbrev pub input_bytes : ℕ
+input_bytes = 8205
 
 abbrev pub Filled : Input → Type 0
-Filled (Ended end) = end ≤ InputBytes
+Filled (Ended end) = end ≤ input_bytes
 Filled Failed = Unit

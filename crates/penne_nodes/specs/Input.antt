@@ -11,16 +11,16 @@ use Rattle.rules.specs.Types.{type}
 use Rattle.rules.specs.Expressions.{expression}
 
 -- the slots for its nodes
-abbrev pub ProgramSlots : ℕ
-ProgramSlots = 8197
+abbrev pub program_slots : ℕ
+program_slots = 8197
 
 -- the bytes of the three sizes
-abbrev pub Sizes : ℕ
-Sizes = 12
+abbrev pub sizes_before_kinds : ℕ
+sizes_before_kinds = 12
 
 -- the most tokens
-abbrev pub ProgramTokens : ℕ
-ProgramTokens = 4096
+abbrev pub program_tokens : ℕ
+program_tokens = 4096
 
 -- the little-endian number in four bytes
 unfoldable pub size_at : List ℕ → ℕ → ℕ
@@ -40,18 +40,18 @@ entry_of bytes = size_at bytes 8
 -- whether the input is a bad file
 unfoldable pub bad : List ℕ → Bool
 bad bytes =
-    or (ltb (length bytes) Sizes)
-    (or (ltb ProgramTokens (tokens_of bytes))
-    (or (unequal (length bytes) (Sizes + tokens_of bytes + tokens_of bytes)) (ltb 1 (entry_of bytes))))
+    or (ltb (length bytes) sizes_before_kinds)
+    (or (ltb program_tokens (tokens_of bytes))
+    (or (unequal (length bytes) (sizes_before_kinds + tokens_of bytes + tokens_of bytes)) (ltb 1 (entry_of bytes))))
 
 -- the row of so many tokens after the sizes: the kinds, and then the value types
 abbrev pub row_in : List ℕ → ℕ → Row
-row_in bytes n = row (take n (drop Sizes bytes)) (take n (drop (Sizes + n) bytes))
+row_in bytes n = row (take n (drop sizes_before_kinds bytes)) (take n (drop (sizes_before_kinds + n) bytes))
 
 -- the rule by the entry's number, after the checks of the entry, with no node yet
 unfoldable pub asking : Row → ℕ → ℕ → Rule Nodes ℕ
 asking row cursor entry =
-    checked (input_check row cursor ProgramSlots ProgramSlots 0)
+    checked (input_check row cursor program_slots program_slots 0)
     (pick (eqb entry 1) (type columns row Limit.Nesting) (expression columns row Limit.Nesting))
 
 -- the rule that the input asks for

@@ -5,13 +5,13 @@ use Rattle.codes.specs.Answer.{Gives, nodes}
 use Rattle.penne.specs.Promise.{count_of}
 use Rattle.rules.specs.Columns.{Nodes}
 use Rattle.rules.specs.Reading.{Rule}
-use Rattle.penne_nodes.specs.Input.{ProgramSlots}
+use Rattle.penne_nodes.specs.Input.{program_slots}
 
 -- The node count of the reply is within the slots, of which both columns have all.
 pub record Fits (r : Parsed) (ks ls : List ℕ) : Type 0 where
-  pub count : count_of r ≤ ProgramSlots
-  pub kinds : length ks ≡ ProgramSlots
-  pub loads : length ls ≡ ProgramSlots
+  pub count : count_of r ≤ program_slots
+  pub kinds : length ks ≡ program_slots
+  pub loads : length ls ≡ program_slots
 
 -- The reply r and the columns ks' and ls' are what the rule m gives from the cursor c, the columns ks and ls, and no
 -- node yet.

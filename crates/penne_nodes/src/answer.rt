@@ -2,7 +2,7 @@
 ghost use Rattle.std.specs.Prelude.{◌≤◌, ◌+◌, ◌*◌, false, ◌≡◌, length};
 ghost use Rattle.codes.specs.Answer.{row, nodes};
 ghost use Rattle.penne.specs.Promise.{count_of};
-ghost use Rattle.penne_nodes.specs.Input.{ProgramSlots, size_at, bad, asking, asked, cursor_in};
+ghost use Rattle.penne_nodes.specs.Input.{program_slots, size_at, bad, asking, asked, cursor_in};
 ghost use Rattle.penne_nodes.specs.Output.{Answers};
 ghost use Rattle.penne_nodes.specs.Output.{parse as parse·text};
 ghost use Rattle.penne_nodes.specs.Parses.{Parses, Fits};
@@ -68,7 +68,7 @@ fn parse_row(
     node_kinds: &mut [u8],
     node_loads: &mut [u32],
 ) -> Parsed
-    requires { (length node_kinds.old ≡ ProgramSlots) × (length node_loads.old ≡ ProgramSlots) }
+    requires { (length node_kinds.old ≡ program_slots) × (length node_loads.old ≡ program_slots) }
     ensures { Parses (asking (row kinds.now types.now) cursor entry) cursor node_kinds.old node_loads.old result node_kinds.new node_loads.new }
 {
     let place = TokenId(cursor);
@@ -82,7 +82,7 @@ fn parse_row(
 // The reply to the row of an input that is not bad.
 fn parse(bytes: &[u8], node_kinds: &mut [u8], node_loads: &mut [u32]) -> Parsed
     requires false_value { false ≡ bad bytes.now }
-    requires node_kinds_len { (length node_kinds.old ≡ ProgramSlots) × (length node_loads.old ≡ ProgramSlots) }
+    requires node_kinds_len { (length node_kinds.old ≡ program_slots) × (length node_loads.old ≡ program_slots) }
     ensures { Parses (asked bytes.now) (cursor_in bytes.now) node_kinds.old node_loads.old result node_kinds.new node_loads.new }
 {
     let tokens = size(bytes, 0) as usize;
@@ -123,7 +123,7 @@ fn count_of(reply: Parsed) -> u32
 // The reply, and the nodes.
 fn put_parse(out: &mut [u8], reply: Parsed, node_kinds: &[u8], node_loads: &[u32]) -> usize
     requires fits { Fits reply node_kinds.now node_loads.now }
-    requires room { Room out.old 0 (64 + 33 * ProgramSlots) }
+    requires room { Room out.old 0 (64 + 33 * program_slots) }
     ensures { Puts out.old 0 (parse·text reply (nodes node_kinds.now node_loads.now (count_of reply))) out.new result }
 {
     let count = count_of(reply);
@@ -134,8 +134,8 @@ fn put_parse(out: &mut [u8], reply: Parsed, node_kinds: &[u8], node_loads: &[u32
 // What is written for the input, at the start of a buffer; the result is its end. The rest of the buffer is kept, and the
 // node columns are those of the parse.
 pub fn answer(bytes: &[u8], node_kinds: &mut [u8], node_loads: &mut [u32], out: &mut [u8]) -> usize
-    requires node_kinds_len { (length node_kinds.old ≡ ProgramSlots) × (length node_loads.old ≡ ProgramSlots) }
-    requires room { Room out.old 0 (64 + 33 * ProgramSlots) }
+    requires node_kinds_len { (length node_kinds.old ≡ program_slots) × (length node_loads.old ≡ program_slots) }
+    requires room { Room out.old 0 (64 + 33 * program_slots) }
     ensures answers { Answers bytes.now (nodes node_kinds.old node_loads.old 0) out.old out.new result node_kinds.new node_loads.new }
     ensures upper_bound { result ≤ length out.new }
 {

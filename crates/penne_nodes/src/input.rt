@@ -1,6 +1,6 @@
 // Standard input, read until it ends, however it is cut into reads.
 ghost use Rattle.std.specs.Prelude.{◌≤◌, ◌<◌, ◌≡◌, length};
-ghost use Rattle.penne_nodes.specs.Filled.{InputBytes, Filled};
+ghost use Rattle.penne_nodes.specs.Filled.{input_bytes, Filled};
 
 use crate::failure;
 use numbers::least;
@@ -27,9 +27,9 @@ fn read_more(rt: &HostRuntime, buffer: &mut [u8], from: usize) -> Result<usize>
 
 // Reads until the input ends, the buffer is full or a read fails, which is then told on standard error.
 pub fn read_input(rt: &HostRuntime, buffer: &mut [u8]) -> Input
-    requires { length buffer.old ≡ InputBytes }
+    requires { length buffer.old ≡ input_bytes }
     ensures filled { Filled result }
-    ensures buffer_len { length buffer.new ≡ InputBytes }
+    ensures buffer_len { length buffer.new ≡ input_bytes }
 {
     let mut end: usize = 0;
     while end < buffer.len() {

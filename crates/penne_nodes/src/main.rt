@@ -6,7 +6,7 @@
 #![tactic(auto)]
 
 ghost use Rattle.std.specs.Prelude.{◌≤◌, ◌≡◌, length};
-ghost use Rattle.penne_nodes.specs.Filled.{InputBytes, Filled};
+ghost use Rattle.penne_nodes.specs.Filled.{input_bytes, Filled};
 
 mod answer;
 mod failure;
@@ -39,7 +39,7 @@ fn write_answer(
     node_loads: &mut [u32; SLOTS],
     out: &mut [u8; OUTPUT],
 ) -> ExitCode
-    requires { Filled input × (length bytes.now ≡ InputBytes) }
+    requires { Filled input × (length bytes.now ≡ input_bytes) }
 {
     match input {
         Input::Failed => ExitCode::FAILURE,

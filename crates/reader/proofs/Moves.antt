@@ -85,8 +85,8 @@ module _ (X : Extra) (Y : Way X) (#core : Callee) where
   }
 
   -- the locals behind the parameters: the struct that is given, the kinds, the cursor and the next one
-  abbrev Temps : ℕ → ℕ → ℕ → ℕ → List (Ty × ℕ)
-  Temps lₛ lₖ l l₂ = (mir_of Y.step, lₛ) ∷ (kinds-type, lₖ) ∷ (cursor.mir, l) ∷ (cursor.mir, l₂) ∷ []
+  abbrev temps : ℕ → ℕ → ℕ → ℕ → List (Ty × ℕ)
+  temps lₛ lₖ l l₂ = (mir_of Y.step, lₛ) ∷ (kinds-type, lₖ) ∷ (cursor.mir, l) ∷ (cursor.mir, l₂) ∷ []
 
   abbrev stayed : Stays (lent X Y).signature.params (lent X Y).kept
   stayed = (stay_ref (0 ∷ []) tt behind, E.stays 2 X)
@@ -179,9 +179,9 @@ module _ (X : Extra) (Y : Way X) (#core : Callee) where
             ∷ []) ∵ enter ! C Λ function (vptr b o ∷ flat (E.rows 2 κs X) vals.1) _ $
             alloc1 ! (λ l₀. alloc1 ! (λ l₁. E.allocs-extra 𝓛 X (λ bs. alloc1 ! (λ lₛ. alloc1 ! (λ lₖ.
             alloc1 ! (λ l. alloc1 ! (λ l₂.
-            naming (E.behind 𝓤 H X bs (Temps lₛ lₖ l l₂)) (λ spot. alloc0 ! $ params1 ! $
+            naming (E.behind 𝓤 H X bs (temps lₛ lₖ l l₂)) (λ spot. alloc0 ! $ params1 ! $
             pass1 ! (init ! 9 refl (tt, tt)) $ move ! (8 ∷ []) $
-            E.passes-extra 𝓛 2 κs X bs a x-is (Temps lₛ lₖ l l₂) $
+            E.passes-extra 𝓛 2 κs X bs a x-is (temps lₛ lₖ l l₂) $
             -- the borrow is opened
             move ! (14 ∷ []) $ fsplit ! $ fsplit3 ! $ drop ! $ move ! (16 ∷ []) $ split ! $ move ! (2 ∷ 3 ∷ 0 ∷ []) $
             opens-whole ! tt (reader κ') h b o (λ was.
@@ -201,7 +201,7 @@ module _ (X : Extra) (Y : Way X) (#core : Callee) where
             (and_then ! (load ! (within ! (spot 1) (stop !)) (look ! 12 refl))
             (and_then ! (load ! (within ! (spot 2) (stop !)) (look ! 10 refl))
             (E.reads-extra 𝓛 1 (κ', tt) 2 7 X bs x refl (E.spots 𝓤 H X bs ((Y.answer.mir, l₀) ∷ (ref-type, l₁) ∷
-            []) (Temps lₛ lₖ l l₂))))) (λ u.
+            []) (temps lₛ lₖ l l₂))))) (λ u.
             use1 𝓛 (later (some (λ (s : Y.step.row.Denot). (tok ⊛ ‵ (Y.step.row.own_val s (u ∷ [])))
             ⊛ raw (ensured 𝓛 (passed X Y) (passed-clauses X Y 𝓤) (κ', tt) given tt s)))) (id⊢ 𝓤 _) $
             await ! tt $ pick ! (λ s. split ! $ move ! (1 ∷ []) $

@@ -3,7 +3,7 @@
 #![tactic(auto)]
 
 ghost use Rattle.std.specs.Prelude.{◌≡◌, ◌≤◌, length};
-ghost use Rattle.replies.specs.Reply.{ReplyNumbers, placed, written, written_word};
+ghost use Rattle.replies.specs.Reply.{reply_numbers, placed, written, written_word};
 
 use codes::Parsed;
 use packing::Packed;
@@ -18,7 +18,7 @@ const REFUSED: u32 = 1;
 
 // The first six places of the column anew.
 fn place(reply: &mut [u32], case: u32, a: u32, b: u32, c: u32, d: u32, e: u32)
-    requires { ReplyNumbers ≤ length reply.old }
+    requires { reply_numbers ≤ length reply.old }
     ensures { reply.new ≡ placed reply.old «case» a b c d e }
 {
     reply[0] = case;
@@ -31,7 +31,7 @@ fn place(reply: &mut [u32], case: u32, a: u32, b: u32, c: u32, d: u32, e: u32)
 
 // A reply as numbers in the column.
 pub fn write(reply: &mut [u32], parsed: Parsed)
-    requires { ReplyNumbers ≤ length reply.old }
+    requires { reply_numbers ≤ length reply.old }
     ensures { reply.new ≡ written reply.old parsed }
 {
     match parsed {
@@ -52,7 +52,7 @@ pub fn write(reply: &mut [u32], parsed: Parsed)
 
 // A word, or its refusal, as numbers in the column.
 pub fn write_word(reply: &mut [u32], packed: Packed)
-    requires { ReplyNumbers ≤ length reply.old }
+    requires { reply_numbers ≤ length reply.old }
     ensures { reply.new ≡ written_word reply.old packed }
 {
     match packed {

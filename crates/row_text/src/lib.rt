@@ -50,7 +50,7 @@ pub struct Row {
 // The value type after a `/` at this place, or i32 where there is none.
 fn value_type(line: &[u8], from: usize) -> Decimal
     requires { from ≤ length line.now }
-    ensures { Numbered line.now from LineLimits.Byte result }
+    ensures { Numbered line.now from LineLimits.byte result }
 {
     let inside = after(line, from, b'/');
     if inside == from {
@@ -71,7 +71,7 @@ fn read_token(
     types: &mut [u8; TOKENS],
     count: usize,
 ) -> Tokens
-    requires { (from ≤ length line.now) × (count ≤ LineLimits.Room) }
+    requires { (from ≤ length line.now) × (count ≤ LineLimits.room) }
     ensures { Counted line.now from count result }
 {
     let kind = number(line, from, BYTE);
@@ -102,7 +102,7 @@ fn read_group(
     types: &mut [u8; TOKENS],
     count: usize,
 ) -> Tokens
-    requires { (from ≤ length line.now) × (count ≤ LineLimits.Room) }
+    requires { (from ≤ length line.now) × (count ≤ LineLimits.room) }
     ensures { Counted line.now from count result }
 {
     let mut at = from;
@@ -121,7 +121,7 @@ fn read_group(
 
 // The tokens from `first` up to `past` again and again, until there are `end`.
 fn repeat(kinds: &mut [u8; TOKENS], types: &mut [u8; TOKENS], first: usize, past: usize, end: usize)
-    requires { (first ≤ past) × (end ≤ LineLimits.Room) }
+    requires { (first ≤ past) × (end ≤ LineLimits.room) }
 {
     let mut from = first;
     let mut to = past;
@@ -135,7 +135,7 @@ fn repeat(kinds: &mut [u8; TOKENS], types: &mut [u8; TOKENS], first: usize, past
 
 // How many tokens there are if those from `first` up to `past` stand so often.
 fn repeated(first: usize, past: usize, times: usize) -> usize
-    requires { (first ≤ past) × (past ≤ LineLimits.Room) × (times ≤ LineLimits.Times) }
+    requires { (first ≤ past) × (past ≤ LineLimits.room) × (times ≤ LineLimits.times) }
     ensures { result ≡ first + (past - first) * times }
 {
     first + (past - first) * times
@@ -149,7 +149,7 @@ fn read_word(
     types: &mut [u8; TOKENS],
     count: usize,
 ) -> Tokens
-    requires { (from ≤ length line.now) × (count ≤ LineLimits.Room) }
+    requires { (from ≤ length line.now) × (count ≤ LineLimits.room) }
     ensures { Counted line.now from count result }
 {
     let group = read_group(line, from, kinds, types, count);

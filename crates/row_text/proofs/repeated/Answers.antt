@@ -6,9 +6,9 @@ use borrow.Author.Rules.{rules}
 use Rattle.row_text.specs.LineLimits as LineLimits
 use Rattle.row_text.proofs.repeated.Goals as goal
 
-below : (first past times : ℕ) → past ≤ LineLimits.Room → times ≤ LineLimits.Times →
-    (past - first) * times ≤ LineLimits.Room * LineLimits.Times
-below first past times tokens most = mul-le-mul {n₂ = LineLimits.Room} {m₂ = LineLimits.Times} (omega arith) most
+below : (first past times : ℕ) → past ≤ LineLimits.room → times ≤ LineLimits.times →
+    (past - first) * times ≤ LineLimits.room * LineLimits.times
+below first past times tokens most = mul-le-mul {n₂ = LineLimits.room} {m₂ = LineLimits.times} (omega arith) most
 
 pub overflow_mul-result : goal.overflow_mul-result
 overflow_mul-result c = omega (arith, below c.args.first c.args.past c.args.times (search rules) (search rules))
