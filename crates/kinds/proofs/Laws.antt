@@ -1,12 +1,16 @@
 -- How the answer for a row follows from those for its words and for its rest.
-use Rattle.std.proofs.Common.{◌≡◌, ℕ, zero, suc, ◌+◌, ◌-◌, ◌*◌, ◌%◌, ◌^◌, ◌<◌, ◌≤◌, max, Bool, true, false, not, ◌&&◌, eqb, ltb, leb, List, [], ◌∷◌, ◌++◌, length, get_or, take, drop, set, replicate, sym, refl, ap, ◌∙◌, ap₂, mul_assoc, add-one, arith, lit<, length-drop, take-append-drop, drop_of_length-le, length-take-le, get_or-drop, take_all, drop-cons, take-suc, take-add, shl_exact, ltb-false, ltb-true, le-ltb, lt-ltb, eq-eqb, ne_eqb, le-leb}
-use lib.Bits.{bit_and, bit_or, or_shifted_r}
+use Rattle.std.proofs.Common.{◌≡◌, ℕ, zero, suc, ◌+◌, ◌*◌, ◌^◌, ◌<◌, ◌≤◌, max, Bool, true, false, not, ◌&&◌, eqb, ltb, nat_le, List, [], ◌∷◌, ◌++◌, length, get_or, take, drop, set, replicate, sym, refl, ap, ◌∙◌, ap₂, add-one, arith, take-append-drop, take-suc, take-add, append-nil, append_assoc, drop_of_length-le, take_all, ltb-false, ltb-true, le-ltb, lt-ltb, eq-eqb, ne_eqb, le-leb}
+use lib.Bits.{bit_and, bit_or}
 use borrow.Author.Tests.{lt-leb}
+use Rattle.std.specs.Int.{w64, from_le_bytes}
+use Rattle.std.specs.List.{concat, fold, list_all, zip}
+use Rattle.std.specs.Simd.{first_chunks}
+use Rattle.std.proofs.lemmas.List.Folds.{concat-append}
 use Rattle.kinds.specs.Above.{most_without_top, none_above, Alike}
-use Rattle.kinds.specs.Words.{number, Holds, ones_of_a_word, tops_of_a_word, sum, clear, Clear, Joined}
+use Rattle.kinds.specs.Words.{number, Holds, tops_of_a_word, sum, clear, Joined}
 use Rattle.kinds.proofs.Bits.{masked}
-use Rattle.kinds.proofs.Lanes.{and_assoc, and-true, and-swap, put, one-next, one_more}
-use Rattle.kinds.proofs.Exact.{first, others, exact, one_byte, fits}
+use Rattle.kinds.proofs.Lanes.{and_assoc, and-true, and-swap, put}
+use Rattle.kinds.proofs.Exact.{first, others, exact}
 
 -- some kinds, and some more
 pub none-append : (limit : ℕ) (xs ys : List ℕ) → none_above limit (xs ++ ys) ≡ none_above limit xs && none_above limit ys
@@ -16,20 +20,6 @@ none-append limit (x ∷ xs) ys =
     ap (λ (b : Bool). not (ltb limit x) && b) (none-append limit xs ys)
     ∙ sym (and_assoc (not (ltb limit x)) (none_above limit xs) (none_above limit ys))
 
-module _ (limit : ℕ) (kinds : List ℕ) where
-  -- a row is its first kinds and its rest
-  divided : (n : ℕ) → none_above limit kinds ≡ none_above limit (take n kinds) && none_above limit (drop n kinds)
-  divided n = ap (none_above limit) (sym (take-append-drop n kinds)) ∙ none-append limit (take n kinds) (drop n kinds)
-
-  pub all_pass :
-      (n : ℕ) {w r : Bool} → w ≡ none_above limit (take n kinds) → w ≡ true → r ≡ none_above limit (drop n kinds) →
-      r ≡ none_above limit kinds
-  all_pass n e h f = f ∙ sym (divided n ∙ rw (sym e ∙ h) refl)
-
-  pub words-fail :
-      (n : ℕ) {w : Bool} → w ≡ none_above limit (take n kinds) → w ≡ false → w ≡ none_above limit kinds
-  words-fail n e h = h ∙ sym (divided n ∙ rw (sym e ∙ h) refl)
-
 pub at_most :
     (limit : ℕ) (kinds : List ℕ) → none_above limit kinds ≡ true → (place : ℕ) → place < length kinds →
     get_or kinds place 0 ≤ limit
@@ -37,100 +27,85 @@ at_most limit [] h place b = absurd (omega arith)
 at_most limit (kind ∷ kinds) h zero b = first limit kind kinds h
 at_most limit (kind ∷ kinds) h (suc place) b = at_most limit kinds (others limit kind kinds h) place (omega arith)
 
--- a rest of a row goes on from a place: no kind before it is above the limit
-pub record Goes (limit : ℕ) (kinds : List ℕ) (from place : ℕ) : Type 0 where
-  pub same : none_above limit (drop from kinds) ≡ none_above limit (drop place kinds)
+-- bytes that are asked one by one
+pub asked : (limit : ℕ) (kinds : List ℕ) → list_all (λ kind. nat_le kind limit) kinds ≡ none_above limit kinds
+unfolding none_above
+asked limit [] = refl
+asked limit (kind ∷ kinds) = ap₂ ◌&&◌ (by (ltb limit kind) refl) (asked limit kinds)
+  where
+    by : (above : Bool) → ltb limit kind ≡ above → nat_le kind limit ≡ not (ltb limit kind)
+    by true e = let h = ltb-true limit kind e in lt-leb kind limit h ∙ sym (rw e refl)
+    by false e = let h = ltb-false limit kind e in le-leb kind limit h ∙ sym (rw e refl)
 
-pub rest-begins : (limit : ℕ) (kinds : List ℕ) (from : ℕ) → Goes limit kinds from from
-rest-begins limit kinds from = record { same = refl }
+-- a column is its chunks and its rest
+chunks-taken : (n k : ℕ) (column : List ℕ) → concat (first_chunks n k column) ≡ take (k * n) column
+chunks-taken n zero column = let e : 0 * n ≡ 0 = omega arith in rw e refl
+chunks-taken n (suc k) column =
+    let e : suc k * n ≡ n + k * n = omega arith in
+    ap (λ (xs : List ℕ). take n column ++ xs) (chunks-taken n k (drop n column)) ∙ sym (take-add n (k * n) column)
+    ∙ ap (λ (m : ℕ). take m column) (sym e)
 
-module _ {limit : ℕ} {kinds : List ℕ} {from place : ℕ} (f : Goes limit kinds from place) where
-  module _ (b : place < length kinds) where
-    next :
-        none_above limit (drop from kinds) ≡
-        not (ltb limit (get_or kinds place 0)) && none_above limit (drop (place + 1) kinds)
-    unfolding none_above
-    next = f.same ∙ rw (add-one, drop-cons kinds place 0 b) refl
+divided :
+    (limit n k : ℕ) (column : List ℕ) →
+    none_above limit column
+    ≡ none_above limit (concat (first_chunks n k column)) && none_above limit (drop (k * n) column)
+divided limit n k column =
+    ap (none_above limit) (sym (take-append-drop (k * n) column))
+    ∙ none-append limit (take (k * n) column) (drop (k * n) column)
+    ∙ ap (λ (xs : List ℕ). none_above limit xs && none_above limit (drop (k * n) column))
+    (sym (chunks-taken n k column))
 
-    pub rest-above : limit < get_or kinds place 0 → false ≡ none_above limit (drop from kinds)
-    rest-above g = sym (next ∙ rw (lt-ltb _ _ g) refl)
+module _
+    (limit n k : ℕ) (column : List ℕ) {chunks : List (List ℕ)} (e : chunks ≡ first_chunks n k column) {a : Bool}
+    (f : a ≡ none_above limit (concat chunks)) where
+  pub chunks-fail : a ≡ false → a ≡ none_above limit column
+  chunks-fail h = h ∙ sym (divided limit n k column ∙ rw (← e, ← f, h) refl)
 
-    pub rest-goes-on : get_or kinds place 0 ≤ limit → Goes limit kinds from (place + 1)
-    rest-goes-on g = record { same = next ∙ rw (le-ltb _ _ g) refl }
+  pub chunks-pass :
+      a ≡ true → {rest : List ℕ} → rest ≡ drop (k * n) column → {b : Bool} → b ≡ list_all (λ kind. nat_le kind limit) rest →
+      b ≡ none_above limit column
+  chunks-pass h {rest} r g = g ∙ asked limit rest ∙ sym (divided limit n k column ∙ rw (← e, ← f, h, r) refl)
 
-  pub rest-ends : length kinds ≤ place → true ≡ none_above limit (drop from kinds)
-  unfolding none_above
-  rest-ends h = sym (f.same ∙ rw (drop_of_length-le kinds h) refl)
+-- the first chunks of a column, and the one after them
+next-chunk :
+    (chunks : List (List ℕ)) (n : ℕ) → n < length chunks → {chunk : List ℕ} → chunk ≡ get_or chunks n [] →
+    concat (take (n + 1) chunks) ≡ concat (take n chunks) ++ chunk
+next-chunk chunks n h {chunk} e =
+    let t : take (n + 1) chunks ≡ take n chunks ++ (chunk ∷ []) = rw (add-one, take-suc chunks n [] h, ← e) refl in
+    ap concat t ∙ concat-append (take n chunks) (chunk ∷ [])
+    ∙ ap (λ (xs : List ℕ). concat (take n chunks) ++ xs) (append-nil chunk)
 
--- kinds as one number, and one more kind above them
-number_more : (xs : List ℕ) (kind : ℕ) → number (xs ++ (kind ∷ [])) ≡ kind * 2 ^ (8 * length xs) + number xs
+-- eight kinds as a word
+all-bytes : (kinds : List ℕ) → ((place : ℕ) → get_or kinds place 0 < 256) → none_above 255 kinds ≡ true
+unfolding none_above
+all-bytes [] h = refl
+all-bytes (kind ∷ kinds) h =
+    let b : kind < 256 = h 0 in
+    rw (le-ltb 255 kind (omega arith)) (all-bytes kinds (λ place. h (suc place)))
+
+number-none : number [] ≡ 0
 unfolding number
-number_more [] kind = omega arith
-number_more (x ∷ xs) kind =
-    let e = number_more xs kind in
-    let m : kind * 2 ^ (8 * suc (length xs)) ≡ kind * 2 ^ (8 * length xs) * 2 ^ 8 =
-    rw (one_byte (length xs)) (sym (mul_assoc kind (2 ^ (8 * length xs)) (2 ^ 8))) in
-    omega arith
+number-none = refl
 
--- the first of the kinds from a place on as a word, and one more of them
-module _ (kinds : List ℕ) (place : ℕ) (b : place + 8 ≤ length kinds) where
-  pub first_kind : {kind : ℕ} → (kind ≡ get_or kinds place 0) × (kind < 256) → Holds (take 1 (drop place kinds)) kind
-  unfolding none_above number
-  first_kind {kind} f =
-      let h : place < length kinds = omega arith in
-      let e : take 1 (drop place kinds) ≡ kind ∷ [] = rw (drop-cons kinds place 0 h, f.0) refl in
-      rw e (record { bytes = rw (le-ltb 255 kind (omega arith)) refl; equal = omega arith })
+number-from :
+    (kinds : List ℕ) (place : ℕ) →
+    number (drop place kinds) ≡ number (drop (suc place) kinds) * 2 ^ 8 + get_or kinds place 0
+unfolding number
+number-from [] zero = omega arith
+number-from [] (suc place) = omega arith
+number-from (kind ∷ kinds) zero = refl
+number-from (kind ∷ kinds) (suc place) = number-from kinds place
 
-  pub one-kind :
-      (n : ℕ) → n < 8 → {word : ℕ} → Holds (take n (drop place kinds)) word → {kind : ℕ} →
-      (kind ≡ get_or kinds (place + n) 0) × (kind < 256) →
-      Holds (take (n + 1) (drop place kinds)) (bit_or word ((kind * 2 ^ (8 * n)) % 2 ^ 64))
-  unfolding none_above
-  one-kind n l {word} w {kind} f =
-      let xs = take n (drop place kinds) in
-      let s : n < length (drop place kinds) = simp length-drop (omega arith) in
-      let m : length xs ≡ n = length-take-le n (drop place kinds) (omega arith) in
-      let p : 2 ^ (8 * length xs) ≡ 2 ^ (8 * n) = rw m refl in
-      let e : take (n + 1) (drop place kinds) ≡ xs ++ (kind ∷ []) =
-      rw (add-one, take-suc (drop place kinds) n 0 s, get_or-drop, f.0) refl in
-      let o : word < 2 ^ (8 * n) = rw (w.equal, ← p) (fits xs w.bytes) in
-      rw e (record {
-        bytes = none-append 255 xs (kind ∷ []) ∙ rw (w.bytes, le-ltb 255 kind (omega arith)) refl;
-        equal =
-            ap (bit_or word) (shl_exact 8 (8 * n) 64 f.1 (omega arith)) ∙ or_shifted_r kind (8 * n) word o
-            ∙ rw (w.equal, ← p) (sym (number_more xs kind));
-      })
+eight-bytes : (kinds : List ℕ) → length kinds ≡ 8 → from_le_bytes w64 kinds ≡ number kinds
+eight-bytes kinds l =
+    let z : number (drop 8 kinds) ≡ number [] = ap number (drop_of_length-le kinds {i = 8} (omega arith)) in
+    let n = number-from kinds in
+    omega (arith, number-none, z, n 0, n 1, n 2, n 3, n 4, n 5, n 6, n 7)
 
-  -- a byte of the row
-  abbrev Read : ℕ → ℕ → Type 0
-  Read at kind = (kind ≡ get_or kinds at 0) × (kind < 256)
-
-  pub eight-kinds :
-      {k0 k1 k2 k3 k4 k5 k6 k7 : ℕ} → Read place k0 → Read (place + 1) k1 → Read (place + 2) k2 → Read (place + 3) k3 →
-      Read (place + 4) k4 → Read (place + 5) k5 → Read (place + 6) k6 → Read (place + 7) k7 →
-      Holds (take 8 (drop place kinds))
-      (bit_or
-      (bit_or
-      (bit_or
-      (bit_or
-      (bit_or
-      (bit_or
-      (bit_or k0 ((k1 * 2 ^ 8) % 2 ^ 64))
-      ((k2 * 2 ^ 16) % 2 ^ 64))
-      ((k3 * 2 ^ 24) % 2 ^ 64))
-      ((k4 * 2 ^ 32) % 2 ^ 64))
-      ((k5 * 2 ^ 40) % 2 ^ 64))
-      ((k6 * 2 ^ 48) % 2 ^ 64))
-      ((k7 * 2 ^ 56) % 2 ^ 64))
-  eight-kinds a b c d e f g h =
-      let w1 = first_kind a in
-      let w2 = one-kind 1 (lit< tt) w1 b in
-      let w3 = one-kind 2 (lit< tt) w2 c in
-      let w4 = one-kind 3 (lit< tt) w3 d in
-      let w5 = one-kind 4 (lit< tt) w4 e in
-      let w6 = one-kind 5 (lit< tt) w5 f in
-      let w7 = one-kind 6 (lit< tt) w6 g in
-      one-kind 7 (lit< tt) w7 h
+pub held :
+    (kinds : List ℕ) → length kinds ≡ 8 → ((place : ℕ) → get_or kinds place 0 < 256) → {word : ℕ} →
+    word ≡ from_le_bytes w64 kinds → Holds kinds word
+held kinds l h e = record { bytes = all-bytes kinds h; equal = e ∙ eight-bytes kinds l }
 
 -- a byte that is the larger of two
 above-larger : (limit a b : ℕ) → not (ltb limit (max a b)) ≡ not (ltb limit a) && not (ltb limit b)
@@ -150,272 +125,244 @@ above-larger limit a b = by (ltb limit a) refl (ltb limit b) refl
         let g = ltb-false limit b h in
         rw (le-ltb limit (max a b) (omega arith)) refl
 
--- the largest bytes of a column's first places
-module _ {xs ys : List ℕ} {n : ℕ} (f : Alike xs n ys) where
-  pub one_type :
-      {lane : ℕ} → lane < length xs → n < length ys → {m : ℕ} → m ≡ max (get_or xs lane 0) (get_or ys n 0) →
-      Alike (set xs lane m) (n + 1) ys
-  unfolding none_above
-  one_type {lane} h b {m} e =
-      record {
-        same = λ limit.
-            ap (λ (k : ℕ). none_above limit (set xs lane k)) e
-            ∙ one_more (λ (k : ℕ). not (ltb limit k)) (none_above limit) refl (λ k ks. refl) max (above-larger limit)
-            xs ys lane n h b (f.same limit);
-      }
-
-pub types-begin : {xs ys : List ℕ} {n : ℕ} → Alike xs n ys → Alike xs (n + 0) ys
-types-begin {n = n} f = let e : n + 0 ≡ n = omega arith in rw e f
-
-module _ (place lane : ℕ) {xs ys : List ℕ} (f : Alike xs (place + lane) ys) where
-  pub next-type :
-      {lanes : ℕ} → lane < lanes → place + lanes ≤ length ys → lane < length xs → {m : ℕ} →
-      m ≡ max (get_or xs lane 0) (get_or ys (place + lane) 0) → Alike (set xs lane m) (place + (lane + 1)) ys
-  next-type l b h e =
-      let r : place + (lane + 1) ≡ place + lane + 1 = omega arith in
-      rw r (one_type f h (omega arith) e)
-
-  pub types-end : {lanes : ℕ} → lane ≤ lanes → lanes ≤ lane → Alike xs (place + lanes) ys
-  types-end {lanes} a b = let e : lanes ≡ lane = omega arith in rw e f
-
-pub largest-ends :
-    {bytes column : List ℕ} {place : ℕ} → Alike bytes place column → place ≤ length column → length column ≤ place →
-    Alike bytes (length column) column
-largest-ends {column = column} {place = place} f a b = let e : length column ≡ place = omega arith in rw e f
-
-pub no_byte : (ys : List ℕ) → Alike (0 ∷ []) 0 ys
+-- the larger bytes of a column and of bytes after it
+larger-alike :
+    {bytes column : List ℕ} → Alike bytes column → (lane : ℕ) → lane < length bytes → (byte : ℕ) →
+    Alike (set bytes lane (max (get_or bytes lane 0) byte)) (column ++ byte ∷ [])
 unfolding none_above
-no_byte ys = record { same = λ limit. rw (le-ltb limit 0 (omega arith)) refl }
-
-pub one-largest :
-    {most place : ℕ} {column : List ℕ} → Alike (most ∷ []) place column → place < length column → {m : ℕ} →
-    m ≡ max most (get_or column place 0) → Alike (m ∷ []) (place + 1) column
-one-largest f b e = one_type f {lane = 0} (lit< tt) b e
-
--- top bits of words that are put together
-pub no-clear : (tops sums : List ℕ) → Clear 0 0 tops sums
-unfolding clear
-no-clear tops sums = record { same = refl }
-
-clear_next :
-    (words : List ℕ) (n : ℕ) → n < length words →
-    clear (take (n + 1) words) ≡ clear (take n words) && eqb (bit_and (get_or words n 0) tops_of_a_word) 0
-unfolding clear
-clear_next words n h =
-    ap (λ (m : ℕ). clear (take m words)) (add-one n)
-    ∙ one-next (λ (y : ℕ). eqb (bit_and y tops_of_a_word) 0) clear refl (λ y ys. refl) words n h
-
-pub one-clear :
-    {all n : ℕ} {tops sums : List ℕ} → Clear all n tops sums → n < length tops → n < length sums →
-    Clear (bit_or (bit_or all (get_or tops n 0)) (get_or sums n 0)) (n + 1) tops sums
-one-clear {all} {n} {tops} {sums} f t s =
-    let x = get_or tops n 0 in
-    let y = get_or sums n 0 in
-    let p = eqb (bit_and x tops_of_a_word) 0 in
-    let q = eqb (bit_and y tops_of_a_word) 0 in
-    let a = clear (take n tops) in
-    let b = clear (take n sums) in
+larger-alike {bytes} {column} f lane h byte =
     record {
-      same =
-          masked (bit_or all x) y tops_of_a_word ∙ ap (λ (c : Bool). c && q) (masked all x tops_of_a_word)
-          ∙ ap (λ (c : Bool). (c && p) && q) f.same
-          ∙ and_assoc (a && b) p q
-          ∙ and-swap a b p q
-          ∙ ap₂ ◌&&◌ (sym (clear_next tops n t)) (sym (clear_next sums n s));
+      same = λ limit.
+          put (λ (k : ℕ). not (ltb limit k)) (none_above limit) (λ k ks. refl) max (above-larger limit) bytes lane h
+          byte
+          ∙ ap₂ ◌&&◌ (f.same limit) (sym (and-true (not (ltb limit byte))))
+          ∙ sym (none-append limit column (byte ∷ []));
     }
 
-pub clear-ends :
-    {all lane lanes : ℕ} {tops sums : List ℕ} → Clear all lane tops sums → lane ≤ lanes → lanes ≤ lane →
-    Clear all lanes tops sums
-clear-ends {lane = lane} {lanes = lanes} f a b = let e : lanes ≡ lane = omega arith in rw e f
+pub next-type :
+    (column types : List ℕ) (lane : ℕ) {bytes : List ℕ} → Alike bytes (column ++ take lane types) →
+    lane < length bytes → lane < length types → {most : ℕ} → most ≡ max (get_or bytes lane 0) (get_or types lane 0) →
+    Alike (set bytes lane most) (column ++ take (lane + 1) types)
+next-type column types lane {bytes} f h l e =
+    let byte = get_or types lane 0 in
+    let t : column ++ take (lane + 1) types ≡ (column ++ take lane types) ++ byte ∷ [] =
+    rw (add-one, take-suc types lane 0 l) (sym (append_assoc column (take lane types) (byte ∷ []))) in
+    rw (t, e) (larger-alike f lane h byte)
 
--- what is added to a word
-pub summed :
-    (limit word : ℕ) {given : ℕ} → given ≡ limit → {r : ℕ} → r ≡ (word + (most_without_top - given) * ones_of_a_word) % 2 ^ 64 →
-    r ≡ sum limit word
-summed limit word e f = f ∙ rw e refl
+fold-alike : (most : ℕ) (column : List ℕ) → Alike (fold max most column ∷ []) (most ∷ column)
+unfolding none_above
+fold-alike most [] = record { same = λ limit. refl }
+fold-alike most (byte ∷ column) =
+    let f = fold-alike (max most byte) column in
+    record {
+      same = λ limit.
+          f.same limit ∙ ap (λ (b : Bool). b && none_above limit column) (above-larger limit most byte)
+          ∙ and_assoc (not (ltb limit most)) (not (ltb limit byte)) (none_above limit column);
+    }
 
--- so many words of a row are put together, and their sums: they pass the test exactly where no kind is above the limit
+-- the largest byte beside a limit
+at-limit : (most limit : ℕ) → nat_le most limit ≡ none_above limit (most ∷ [])
+at-limit most limit = sym (and-true (nat_le most limit)) ∙ asked limit (most ∷ [])
+
+largest-at :
+    (limit : ℕ) {bytes column : List ℕ} → Alike bytes column → {most : ℕ} → most ≡ fold max 0 bytes →
+    nat_le most limit ≡ none_above limit column
+unfolding none_above
+largest-at limit {bytes} {column} f {most} e =
+    at-limit most limit ∙ ap (λ (m : ℕ). none_above limit (m ∷ [])) e ∙ (fold-alike 0 bytes).same limit
+    ∙ rw (le-ltb limit 0 (omega arith)) (f.same limit)
+
+-- no byte yet
+pub no-types : (n : ℕ) → Alike (replicate n 0) []
+unfolding none_above
+no-types n = record { same = λ limit. zeros limit n }
+  where
+    zeros : (limit n : ℕ) → none_above limit (replicate n 0) ≡ true
+    zeros limit zero = refl
+    zeros limit (suc n) = rw (le-ltb limit 0 (omega arith)) (zeros limit n)
+
+-- the value types of one turn more
+pub next-types :
+    (types : List (List ℕ)) (block : ℕ) {bytes : List ℕ} → Alike bytes (concat (take block types)) →
+    block < length types → {most : List ℕ} → Alike most (bytes ++ get_or types block []) →
+    Alike most (concat (take (block + 1) types))
+next-types types block {bytes} f h g =
+    let before = concat (take block types) in
+    let more = get_or types block [] in
+    record {
+      same = λ limit.
+          g.same limit ∙ none-append limit bytes more
+          ∙ ap (λ (b : Bool). b && none_above limit more) (f.same limit)
+          ∙ sym (none-append limit before more)
+          ∙ ap (none_above limit) (sym (next-chunk types block h refl));
+    }
+
+-- top bits of words that are put together, and their sums
+abbrev put_together : ℕ → List ℕ → List ℕ → ℕ
+put_together word tops sums = fold (λ all pair. bit_or all (bit_or pair.0 pair.1)) word (zip tops sums)
+
+fold-clear :
+    (word : ℕ) (tops sums : List ℕ) → length tops ≡ length sums →
+    eqb (bit_and (put_together word tops sums) tops_of_a_word) 0
+    ≡ eqb (bit_and word tops_of_a_word) 0 && (clear tops && clear sums)
+unfolding clear
+fold-clear word [] [] l = sym (and-true (eqb (bit_and word tops_of_a_word) 0))
+fold-clear word [] (sum ∷ sums) l = absurd (omega arith)
+fold-clear word (top ∷ tops) [] l = absurd (omega arith)
+fold-clear word (top ∷ tops) (sum ∷ sums) l =
+    let w = eqb (bit_and word tops_of_a_word) 0 in
+    let x = eqb (bit_and top tops_of_a_word) 0 in
+    let y = eqb (bit_and sum tops_of_a_word) 0 in
+    fold-clear (bit_or word (bit_or top sum)) tops sums (omega arith)
+    ∙ ap (λ (b : Bool). b && (clear tops && clear sums))
+    (masked word (bit_or top sum) tops_of_a_word ∙ ap (λ (b : Bool). w && b) (masked top sum tops_of_a_word))
+    ∙ and_assoc w (x && y) (clear tops && clear sums)
+    ∙ ap (λ (b : Bool). w && b) (and-swap x y (clear tops) (clear sums))
+
+-- whether a row passes by its joined words
+joined-pass :
+    {limit : ℕ} {row tops sums : List ℕ} → Joined limit row tops sums → length tops ≡ length sums → {word : ℕ} →
+    word ≡ put_together 0 tops sums → eqb (bit_and word tops_of_a_word) 0 ≡ none_above limit row
+joined-pass {tops = tops} {sums = sums} f l e =
+    ap (λ (n : ℕ). eqb (bit_and n tops_of_a_word) 0) e ∙ fold-clear 0 tops sums l ∙ f.answer
+
+-- some words of a row are put together, and their sums: they pass the test exactly where no kind is above the limit
 module _
-    {limit : ℕ} {kinds tops sums : List ℕ} {n : ℕ} (f : Joined limit n kinds tops sums) (h : limit < most_without_top)
-    (b : n + 8 ≤ length kinds) {lane : ℕ} (t : lane < length tops) (s : lane < length sums) {word other : ℕ}
-    (w : Holds (take 8 (drop n kinds)) word) (e : other ≡ sum limit word) where
-  eight : length (take 8 (drop n kinds)) ≡ 8
-  eight = length-take-le 8 (drop n kinds) (simp length-drop (omega arith))
-
-  joins : (xs : List ℕ) → lane < length xs → (x : ℕ) →
+    {limit : ℕ} {row tops sums : List ℕ} (f : Joined limit row tops sums) (h : limit < most_without_top) {lane : ℕ}
+    (t : lane < length tops) (s : lane < length sums) {kinds : List ℕ} {word other : ℕ} (w : Holds kinds word)
+    (l : length kinds ≡ 8) (e : other ≡ sum limit word) where
+  joins :
+      (xs : List ℕ) → lane < length xs → (x : ℕ) →
       clear (set xs lane (bit_or (get_or xs lane 0) x)) ≡ clear xs && eqb (bit_and x tops_of_a_word) 0
   unfolding clear
   joins xs l x =
-      put (λ (y : ℕ). eqb (bit_and y tops_of_a_word) 0) clear refl (λ y ys. refl) bit_or (λ y z. masked y z tops_of_a_word) xs lane l x
+      put (λ (y : ℕ). eqb (bit_and y tops_of_a_word) 0) clear (λ y ys. refl) bit_or (λ y z. masked y z tops_of_a_word) xs lane l x
 
-  pub one_word :
-      Joined limit (n + 8) kinds (set tops lane (bit_or (get_or tops lane 0) word))
+  one_word :
+      Joined limit (row ++ kinds) (set tops lane (bit_or (get_or tops lane 0) word))
       (set sums lane (bit_or (get_or sums lane 0) other))
   one_word =
       record {
         answer =
             ap₂ ◌&&◌ (joins tops t word) (joins sums s other)
             ∙ and-swap (clear tops) (eqb (bit_and word tops_of_a_word) 0) (clear sums) (eqb (bit_and other tops_of_a_word) 0)
-            ∙ ap₂ ◌&&◌ f.answer (sym (masked word other tops_of_a_word)
-            ∙ rw e (exact limit (omega arith) (take 8 (drop n kinds)) word eight w))
-            ∙ sym (none-append limit (take n kinds) (take 8 (drop n kinds)))
-            ∙ ap (none_above limit) (sym (take-add n 8 kinds));
+            ∙ ap₂ ◌&&◌ f.answer (sym (masked word other tops_of_a_word) ∙ rw e (exact limit (omega arith) kinds word l w))
+            ∙ sym (none-append limit row kinds);
       }
 
-pub words-begin :
-    {limit n : ℕ} {kinds tops sums : List ℕ} → Joined limit n kinds tops sums → Joined limit (n + 0 * 8) kinds tops sums
-words-begin {n = n} f = let e : n + 0 * 8 ≡ n = omega arith in rw e f
-
-module _
-    (place lane : ℕ) {limit : ℕ} {kinds tops sums : List ℕ} (f : Joined limit (place + lane * 8) kinds tops sums) where
+  -- it is the next one of some words
   pub next_word :
-      limit < most_without_top → {lanes : ℕ} → lane < lanes → place + lanes * 8 ≤ length kinds → lane < length tops →
-      lane < length sums → {word other : ℕ} → Holds (take 8 (drop (place + lane * 8) kinds)) word →
-      other ≡ sum limit word →
-      Joined limit (place + (lane + 1) * 8) kinds (set tops lane (bit_or (get_or tops lane 0) word))
+      (before : List ℕ) (words : List (List ℕ)) (n : ℕ) → row ≡ before ++ concat (take n words) → n < length words →
+      kinds ≡ get_or words n [] →
+      Joined limit (before ++ concat (take (n + 1) words)) (set tops lane (bit_or (get_or tops lane 0) word))
       (set sums lane (bit_or (get_or sums lane 0) other))
-  next_word h l b t s w e =
-      let r : place + (lane + 1) * 8 ≡ place + lane * 8 + 8 = omega arith in
-      rw r (one_word f h (omega arith) t s w e)
+  next_word before words n r b k =
+      let c : before ++ concat (take (n + 1) words) ≡ row ++ kinds =
+      ap (λ (xs : List ℕ). before ++ xs) (next-chunk words n b k)
+      ∙ sym (append_assoc before (concat (take n words)) kinds)
+      ∙ ap (λ (xs : List ℕ). xs ++ kinds) (sym r) in
+      rw c one_word
 
-  pub lanes_end : lane ≤ 4 → 4 ≤ lane → Joined limit (place + 32) kinds tops sums
-  lanes_end a b = let e : place + 32 ≡ place + lane * 8 = omega arith in rw e f
+-- no word yet
+pub no-words : (limit n : ℕ) → Joined limit [] (replicate n 0) (replicate n 0)
+unfolding clear none_above
+no-words limit n = record { answer = rw (zeros n) refl }
+  where
+    zeros : (n : ℕ) → clear (replicate n 0) ≡ true
+    zeros zero = refl
+    zeros (suc n) = zeros n
+
+-- all words of some kinds
+pub lanes-end :
+    {limit : ℕ} (before : List ℕ) (words : List (List ℕ)) (n : ℕ) {tops sums : List ℕ} →
+    Joined limit (before ++ concat (take n words)) tops sums → length words ≤ n → (kinds : List ℕ) (k : ℕ) →
+    words ≡ first_chunks 8 k kinds → length kinds ≤ k * 8 → Joined limit (before ++ kinds) tops sums
+lanes-end before words n f h kinds k e l =
+    let t : concat (take n words) ≡ kinds =
+    ap concat (take_all n words h ∙ e) ∙ chunks-taken 8 k kinds ∙ take_all (k * 8) kinds l in
+    rw t at f
 
 -- in one place
-pub no_word : (limit : ℕ) (kinds : List ℕ) → Joined limit (0 * 8) kinds (0 ∷ []) (0 ∷ [])
-unfolding clear none_above
-no_word limit kinds = record { answer = refl }
-
-pub one_word_more :
-    {limit done words : ℕ} {kinds : List ℕ} {tops sums : ℕ} → Joined limit (done * 8) kinds (tops ∷ []) (sums ∷ []) →
-    limit < most_without_top → done < words → words * 8 ≤ length kinds → {word other : ℕ} →
-    Holds (take 8 (drop (done * 8) kinds)) word → other ≡ sum limit word →
-    Joined limit ((done + 1) * 8) kinds (bit_or tops word ∷ []) (bit_or sums other ∷ [])
-one_word_more {done = done} f h l b w e =
-    let r : (done + 1) * 8 ≡ done * 8 + 8 = omega arith in
-    rw r (one_word f h (omega arith) {lane = 0} (lit< tt) (lit< tt) w e)
-
 pub words-end :
-    {limit done words : ℕ} {kinds : List ℕ} {tops sums : ℕ} → Joined limit (done * 8) kinds (tops ∷ []) (sums ∷ []) →
-    done ≤ words → words ≤ done →
-    eqb (bit_and (bit_or tops sums) tops_of_a_word) 0 ≡ none_above limit (take (words * 8) kinds)
+    {limit n : ℕ} (words : List (List ℕ)) {tops sums : ℕ} →
+    Joined limit (concat (take n words)) (tops ∷ []) (sums ∷ []) → length words ≤ n →
+    eqb (bit_and (bit_or tops sums) tops_of_a_word) 0 ≡ none_above limit (concat words)
 unfolding clear
-words-end {done = done} {words = words} {tops = tops} {sums = sums} f a b =
-    let e : words ≡ done = omega arith in
+words-end {limit} {n} words {tops} {sums} f h =
     let p = eqb (bit_and tops tops_of_a_word) 0 in
     let q = eqb (bit_and sums tops_of_a_word) 0 in
-    rw e (masked tops sums tops_of_a_word ∙ ap₂ ◌&&◌ (sym (and-true p)) (sym (and-true q)) ∙ f.answer)
+    masked tops sums tops_of_a_word ∙ ap₂ ◌&&◌ (sym (and-true p)) (sym (and-true q)) ∙ f.answer
+    ∙ ap (λ (xs : List (List ℕ)). none_above limit (concat xs)) (take_all n words h)
 
--- thirty-two tokens at a time
-pub block_room : {done blocks n : ℕ} → done < blocks → blocks * 32 ≤ n → done * 32 + 32 ≤ n
-block_room l b = omega arith
+-- the words of one turn more
+pub next-kinds :
+    {limit : ℕ} (kinds : List (List ℕ)) (block : ℕ) {tops sums : List ℕ} → block < length kinds →
+    Joined limit (concat (take block kinds) ++ get_or kinds block []) tops sums →
+    Joined limit (concat (take (block + 1) kinds)) tops sums
+next-kinds kinds block h f = rw (next-chunk kinds block h refl) f
 
-pub types-block : (done : ℕ) {most types : List ℕ} → Alike most (done * 32 + 32) types → Alike most ((done + 1) * 32) types
-types-block done f = let e : (done + 1) * 32 ≡ done * 32 + 32 = omega arith in rw e f
-
-pub words-block :
-    (done : ℕ) {limit : ℕ} {kinds tops sums : List ℕ} → Joined limit (done * 32 + 32) kinds tops sums →
-    Joined limit ((done + 1) * 32) kinds tops sums
-words-block done f = let e : (done + 1) * 32 ≡ done * 32 + 32 = omega arith in rw e f
-
-pub no-types : (n : ℕ) (types : List ℕ) → Alike (replicate n 0) 0 types
-unfolding none_above
-no-types n types = record { same = λ limit. zeros limit n }
-  where
-    zeros : (limit n : ℕ) → none_above limit (replicate n 0) ≡ true
-    zeros limit zero = refl
-    zeros limit (suc n) = rw (le-ltb limit 0 (omega arith)) (zeros limit n)
-
-pub no_words : (limit : ℕ) (kinds : List ℕ) → Joined limit 0 kinds (replicate 4 0) (replicate 4 0)
-unfolding clear none_above
-no_words limit kinds = record { answer = refl }
-
+-- no turn
 pub no_block :
-    (limit other : ℕ) (kinds types : List ℕ) {blocks : ℕ} → blocks ≡ 0 →
-    true ≡ none_above limit (take (blocks * 32) kinds) && none_above other (take (blocks * 32) types)
+    (limit other : ℕ) (kinds types : List (List ℕ)) → length kinds ≡ 0 → length types ≡ length kinds →
+    true ≡ none_above limit (concat kinds) && none_above other (concat types)
 unfolding none_above
-no_block limit other kinds types e = rw e refl
+no_block limit other [] [] e l = refl
+no_block limit other (k ∷ ks) types e l = absurd (omega arith)
+no_block limit other [] (t ∷ ts) e l = absurd (omega arith)
 
--- the largest byte beside a limit
-at-limit : (most limit : ℕ) → leb most limit ≡ none_above limit (most ∷ [])
-unfolding none_above
-at-limit most limit = by (ltb limit most) refl
+-- all turns
+module _
+    {limit : ℕ} (kinds types : List (List ℕ)) (block : ℕ) {tops sums bytes : List ℕ}
+    (f : Joined limit (concat (take block kinds)) tops sums) (g : Alike bytes (concat (take block types)))
+    (h : length kinds ≤ block) (l : length types ≡ length kinds) (t : length tops ≡ 4) (s : length sums ≡ 4) {word : ℕ}
+    (e : word ≡ put_together 0 tops sums) (other : ℕ) where
+  kinds-told : eqb (bit_and word tops_of_a_word) 0 ≡ none_above limit (concat kinds)
+  kinds-told =
+      joined-pass f (t ∙ sym s) e ∙ ap (λ (xs : List (List ℕ)). none_above limit (concat xs)) (take_all block kinds h)
+
+  pub blocks-fail :
+      (bit_and word tops_of_a_word ≡ 0 → ⊥) →
+      eqb (bit_and word tops_of_a_word) 0 ≡ none_above limit (concat kinds) && none_above other (concat types)
+  blocks-fail n = let e = ne_eqb (bit_and word tops_of_a_word) 0 n in e ∙ sym (rw (sym kinds-told ∙ e) refl)
+
+  pub blocks-pass :
+      bit_and word tops_of_a_word ≡ 0 → {most : ℕ} → most ≡ fold max 0 bytes →
+      nat_le most other ≡ none_above limit (concat kinds) && none_above other (concat types)
+  blocks-pass z m =
+      let e = eq-eqb (bit_and word tops_of_a_word) 0 z in
+      largest-at other g m
+      ∙ ap (λ (xs : List (List ℕ)). none_above other (concat xs)) (take_all block types (omega arith))
+      ∙ sym (rw (sym kinds-told ∙ e) refl)
+
+-- one test, and another one where it passes
+module _ {a x : Bool} (e : a ≡ x) (y : Bool) where
+  pub one-fails : a ≡ false → a ≡ x && y
+  one-fails f = f ∙ sym (rw (sym e ∙ f) refl)
+
+  pub both_told : a ≡ true → {b : Bool} → b ≡ y → b ≡ x && y
+  both_told f g = g ∙ sym (rw (sym e ∙ f) refl)
+
+-- a row is its turns and its rest
+module _
+    (limit other n k j : ℕ) (kinds types : List ℕ) {ks ts : List (List ℕ)} (e : ks ≡ first_chunks n k kinds)
+    (g : ts ≡ first_chunks n j types) {a : Bool} (f : a ≡ none_above limit (concat ks) && none_above other (concat ts))
   where
-    by : (above : Bool) → ltb limit most ≡ above → leb most limit ≡ not (ltb limit most) && true
-    by true e = let h = ltb-true limit most e in lt-leb most limit h ∙ sym (rw e refl)
-    by false e = let h = ltb-false limit most e in le-leb most limit h ∙ sym (rw e refl)
+    rows_told :
+        none_above limit kinds && none_above other types
+        ≡ a && (none_above limit (drop (k * n) kinds) && none_above other (drop (j * n) types))
+    rows_told =
+        let a' = none_above limit (concat (first_chunks n k kinds)) in
+        let b' = none_above other (concat (first_chunks n j types)) in
+        let c = none_above limit (drop (k * n) kinds) in
+        let d = none_above other (drop (j * n) types) in
+        let t : a ≡ a' && b' = rw (e, g) at f in
+        ap₂ ◌&&◌ (divided limit n k kinds) (divided other n j types) ∙ and-swap a' c b' d
+        ∙ ap (λ (x : Bool). x && (c && d)) (sym t)
 
-pub largest-at :
-    {most : ℕ} (limit : ℕ) {column : List ℕ} → Alike (most ∷ []) (length column) column →
-    leb most limit ≡ none_above limit column
-largest-at {most} limit {column} f =
-    at-limit most limit ∙ f.same limit ∙ ap (none_above limit) (take_all (length column) column (omega arith))
+    pub tokens-fail : a ≡ false → a ≡ none_above limit kinds && none_above other types
+    tokens-fail h = h ∙ sym (rows_told ∙ rw h refl)
 
--- so many blocks
-module _
-    (done blocks : ℕ) {limit : ℕ} {kinds tops sums : List ℕ} (f : Joined limit (done * 32) kinds tops sums)
-    (a : done ≤ blocks) (b : blocks ≤ done) (t : length tops ≡ 4) (s : length sums ≡ 4) {word : ℕ}
-    (c : Clear word 4 tops sums) {most types : List ℕ} (g : Alike most (done * 32) types) where
-  all_done : blocks ≡ done
-  all_done = omega arith
-
-  words-known : eqb (bit_and word tops_of_a_word) 0 ≡ none_above limit (take (blocks * 32) kinds)
-  words-known =
-      rw all_done
-      (c.same
-      ∙ ap₂ (λ (x y : List ℕ). clear x && clear y) (take_all 4 tops (omega arith)) (take_all 4 sums (omega arith))
-      ∙ f.answer)
-
-  module _ (other : ℕ) where
-    pub blocks-fail :
-        (bit_and word tops_of_a_word ≡ 0 → ⊥) →
-        eqb (bit_and word tops_of_a_word) 0 ≡
-        none_above limit (take (blocks * 32) kinds) && none_above other (take (blocks * 32) types)
-    blocks-fail h =
-        let e = ne_eqb (bit_and word tops_of_a_word) 0 h in
-        e ∙ sym (rw (sym words-known ∙ e) refl)
-
-    pub blocks-known :
-        bit_and word tops_of_a_word ≡ 0 → {m : ℕ} → Alike (m ∷ []) (length most) most →
-        leb m other ≡ none_above limit (take (blocks * 32) kinds) && none_above other (take (blocks * 32) types)
-    blocks-known h k =
-        let e = eq-eqb (bit_and word tops_of_a_word) 0 h in
-        let i : none_above other (take (done * 32) types) ≡ none_above other (take (blocks * 32) types) = rw all_done refl in
-        largest-at other k ∙ g.same other ∙ i ∙ sym (rw (sym words-known ∙ e) refl)
-
--- a row is its blocks and its rest
-abbrev rest : ℕ → List ℕ → List ℕ
-rest n xs = take (length xs - n) (drop n xs)
-
-rest-is : (limit n : ℕ) (xs : List ℕ) → none_above limit (rest n xs) ≡ none_above limit (drop n xs)
-rest-is limit n xs = ap (none_above limit) (take_all (length xs - n) (drop n xs) (simp length-drop (omega arith)))
-
-module _ (limit other n : ℕ) (kinds types : List ℕ) {k : Bool} (f : k ≡ none_above limit (rest n kinds)) where
-  pub rest-fails : k ≡ false → k ≡ none_above limit (drop n kinds) && none_above other (drop n types)
-  rest-fails g = g ∙ sym (rw (sym (rest-is limit n kinds) ∙ sym f ∙ g) refl)
-
-  pub rest-known :
-      k ≡ true → {t : Bool} → t ≡ none_above other (rest n types) →
-      t ≡ none_above limit (drop n kinds) && none_above other (drop n types)
-  rest-known g a = a ∙ rest-is other n types ∙ sym (rw (sym (rest-is limit n kinds) ∙ sym f ∙ g) refl)
-
-module _
-    (limit other n : ℕ) (kinds types : List ℕ) {b : Bool}
-    (e : b ≡ none_above limit (take n kinds) && none_above other (take n types)) where
-  parted :
-      none_above limit kinds && none_above other types ≡
-      b && (none_above limit (drop n kinds) && none_above other (drop n types))
-  parted =
-      ap₂ ◌&&◌ (divided limit kinds n) (divided other types n)
-      ∙ and-swap (none_above limit (take n kinds)) (none_above limit (drop n kinds)) (none_above other (take n types))
-      (none_above other (drop n types))
-      ∙ rw e refl
-
-  pub tokens-fail : b ≡ false → b ≡ none_above limit kinds && none_above other types
-  tokens-fail h = h ∙ sym (parted ∙ rw h refl)
-
-  pub tokens-known :
-      b ≡ true → {r : Bool} → r ≡ none_above limit (drop n kinds) && none_above other (drop n types) →
-      r ≡ none_above limit kinds && none_above other types
-  tokens-known h f = f ∙ sym (parted ∙ rw h refl)
+    pub tokens-pass :
+        a ≡ true → {kr : List ℕ} → kr ≡ drop (k * n) kinds → {tr : List ℕ} → tr ≡ drop (j * n) types → {b : Bool} →
+        b ≡ none_above limit kr && none_above other tr → b ≡ none_above limit kinds && none_above other types
+    tokens-pass h x y i = i ∙ sym (rows_told ∙ rw (h, x, y) refl)

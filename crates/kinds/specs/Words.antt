@@ -1,18 +1,11 @@
 -- Kinds as one 64-bit word, and the test of a word.
 use Rattle.std.specs.Prelude.{◌≡◌, ℕ, ◌+◌, ◌-◌, ◌*◌, ◌%◌, ◌^◌, Bool, true, ◌&&◌}
-use Rattle.std.specs.Prelude.{List, [], ◌∷◌, length, take, ◌==◌, bit_and, bit_or, nat_eq}
+use Rattle.std.specs.Prelude.{List, [], ◌∷◌, length, ◌==◌, bit_and, bit_or}
 use Rattle.kinds.specs.Above.{most_without_top, none_above}
 
 -- how many kinds a word has
 abbrev pub kinds_a_word : ℕ
 kinds_a_word = 8
-
--- how many words are taken in a turn, and how many tokens that are
-abbrev pub words_a_turn : ℕ
-words_a_turn = 4
-
-abbrev pub tokens_a_turn : ℕ
-tokens_a_turn = words_a_turn * kinds_a_word
 
 -- kinds as one number, the first in its lowest byte
 unfoldable pub number : List ℕ → ℕ
@@ -53,11 +46,7 @@ unfoldable pub clear : List ℕ → Bool
 clear [] = true
 clear (word ∷ words) = bit_and word tops_of_a_word == 0 && clear words
 
--- One word has a top bit set exactly where one of the first so many words, or of their sums, has.
-pub record Clear (word lanes : ℕ) (tops sums : List ℕ) : Type 0 where
-  pub same : nat_eq (bit_and word tops_of_a_word) 0 ≡ clear (take lanes tops) && clear (take lanes sums)
-
--- The first so many kinds of a row are put together in words, and so are the words' sums: no top bit is set exactly
--- where no kind is above the limit.
-pub record Joined (limit places : ℕ) (kinds tops sums : List ℕ) : Type 0 where
-  pub answer : clear tops && clear sums ≡ none_above limit (take places kinds)
+-- Some kinds are put together in words, and so are the words' sums: no top bit is set exactly where no kind is above
+-- the limit.
+pub record Joined (limit : ℕ) (kinds tops sums : List ℕ) : Type 0 where
+  pub answer : clear tops && clear sums ≡ none_above limit kinds

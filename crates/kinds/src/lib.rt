@@ -3,10 +3,11 @@
 // known by their largest, of a short one as kinds are.
 #![tactic(auto)]
 
-ghost use Rattle.std.specs.Prelude.{◌≡◌, ◌+◌, ◌*◌, ◌<◌, ◌≤◌, max, ◌&&◌, [], ◌∷◌, length, take, drop};
+ghost use Rattle.std.specs.Prelude.{◌≡◌, ◌<◌, ◌&&◌, List, [], ◌∷◌, ◌++◌, ℕ, length, max, zip, nat_le, bit_or};
+ghost use Rattle.std.specs.List.{concat, fold, list_all};
 ghost use Rattle.kinds.specs.Above.{most_without_top, none_above, Alike};
 ghost use Rattle.kinds.specs.Words as Test;
-ghost use Rattle.kinds.specs.Words.{Holds, kinds_a_word, words_a_turn, tokens_a_turn, Clear, Joined};
+ghost use Rattle.kinds.specs.Words.{Holds, kinds_a_word, Joined};
 
 // How many kinds a word has, or value types.
 const KINDS: usize = 8;
@@ -26,45 +27,19 @@ const TOPS: u64 = 0x8080_8080_8080_8080;
 // The largest byte without its top bit.
 const MOST: u64 = 127;
 
-// A byte as a word.
-fn wide(byte: u8) -> u64
-    ensures { (result ≡ byte) × (result < 256) }
-{
-    byte as u64
-}
-
-fn larger(a: u8, b: u8) -> u8
-    ensures { result ≡ max a b }
-{
-    if a < b { b } else { a }
-}
-
-// The largest byte of a column. The loop is compiled to vector instructions, since it has no way out but its end.
+// The largest byte of a column, 0 where it has none.
 fn largest(column: &[u8]) -> u8
-    ensures { Alike (result ∷ []) (length column.now) column.now }
+    ensures { result ≡ fold max 0 column.now }
 {
-    let mut most: u8 = 0;
-    let mut place: usize = 0;
-    while place < column.len() {
-        most = larger(most, column[place]);
-        place = place + 1;
-    }
-    most
+    column.iter().fold(0, |most: u8, byte| most.max(*byte))
 }
 
-// The eight bytes of a column from a place on, the first in the lowest byte. It is compiled to one load.
-fn word(column: &[u8], place: usize) -> u64
-    requires { place + kinds_a_word ≤ length column.now }
-    ensures { Holds (take kinds_a_word (drop place column.now)) result }
+// Eight kinds as a word, the first in the lowest byte. It is compiled to one load.
+fn word(kinds: &[u8; KINDS]) -> u64
+    ensures holds { Holds kinds.now result }
+    ensures size { length kinds.now ≡ kinds_a_word }
 {
-    wide(column[place])
-        | (wide(column[place + 1]) << 8)
-        | (wide(column[place + 2]) << 16)
-        | (wide(column[place + 3]) << 24)
-        | (wide(column[place + 4]) << 32)
-        | (wide(column[place + 5]) << 40)
-        | (wide(column[place + 6]) << 48)
-        | (wide(column[place + 7]) << 56)
+    u64::from_le_bytes(*kinds)
 }
 
 // A word with so much added to each byte that one above the limit gets its top bit set.
@@ -72,120 +47,100 @@ fn sum(word: u64, limit: u8) -> u64
     requires { limit < most_without_top }
     ensures { result ≡ Test.sum limit word }
 {
-    let added = (MOST - wide(limit)) * ONES;
-    std::num::wrapping_add_u64(word, added)
+    word.wrapping_add((MOST - u64::from(limit)) * ONES)
 }
 
-// Whether so many words pass their tests: no top bit is set, neither in a word nor in its sum. All words are put
-// together first, and so are their sums.
-fn words_pass(column: &[u8], words: usize, limit: u8) -> bool
-    requires { (words * kinds_a_word ≤ length column.now) × (limit < most_without_top) }
-    ensures { result ≡ none_above limit (take (words * kinds_a_word) column.now) }
+// Whether some words pass their tests: no top bit is set, neither in a word nor in its sum. All words are put together
+// first, and so are their sums.
+fn words_pass(words: &[[u8; KINDS]], limit: u8) -> bool
+    requires { limit < most_without_top }
+    ensures { result ≡ none_above limit (concat words.now) }
 {
     let mut tops: u64 = 0;
     let mut sums: u64 = 0;
-    let mut done: usize = 0;
-    while done < words {
-        let word = word(column, done * KINDS);
-        tops = tops | word;
-        sums = sums | sum(word, limit);
-        done = done + 1;
+    for kinds in words {
+        let word = word(kinds);
+        tops |= word;
+        sums |= sum(word, limit);
     }
-    ((tops | sums) & TOPS) == 0
+    (tops | sums) & TOPS == 0
 }
 
-// Whether none from a place on is above the limit, by bytes.
-fn rest_passes(column: &[u8], from: usize, limit: u8) -> bool
-    ensures { result ≡ none_above limit (drop from column.now) }
+// Whether none of some bytes is above the limit, one by one.
+fn rest_passes(rest: &[u8], limit: u8) -> bool
+    ensures { result ≡ list_all (λ kind. nat_le kind limit) rest.now }
 {
-    let mut place = from;
-    while place < column.len() {
-        if column[place] > limit {
-            return false;
-        }
-        place = place + 1;
-    }
-    true
+    rest.iter().all(|kind| *kind <= limit)
 }
 
-// Whether no byte of a column is above the limit.
+// Whether no byte of a column is above the limit: by words, and the rest by bytes.
 fn none_above(column: &[u8], limit: u8) -> bool
     requires { limit < most_without_top }
     ensures { result ≡ none_above limit column.now }
 {
-    let words = column.len() / KINDS;
-    words_pass(column, words, limit) && rest_passes(column, words * KINDS, limit)
+    let (words, rest) = column.as_chunks::<KINDS>();
+    words_pass(words, limit) && rest_passes(rest, limit)
 }
 
-// Four words from a place on. Each has a lane, a place of its own in a turn, where it is put together with those of the
-// turns before it, and so are their sums.
-fn join_words(kinds: &[u8], place: usize, limit: u8, tops: &mut [u64], sums: &mut [u64])
-    requires { (place + tokens_a_turn ≤ length kinds.now) × (limit < most_without_top) × (length tops.old ≡ words_a_turn) × (length sums.old ≡ words_a_turn) × Joined limit place kinds.now tops.old sums.old }
-    ensures { Joined limit (place + tokens_a_turn) kinds.now tops.new sums.new }
+// Four words more. Each has a lane, a place of its own in a turn, where it is put together with those of the turns before
+// it, and so are their sums.
+fn join_words(kinds: &[u8; TOKENS], limit: u8, tops: &mut [u64; WORDS], sums: &mut [u64; WORDS])
+    requires { limit < most_without_top }
+    ensures { (row : List ℕ) → Joined limit row tops.old sums.old → Joined limit (row ++ kinds.now) tops.new sums.new }
 {
-    let mut lane: usize = 0;
-    while lane < WORDS {
-        let word = word(kinds, place + lane * KINDS);
-        tops[lane] = tops[lane] | word;
-        sums[lane] = sums[lane] | sum(word, limit);
-        lane = lane + 1;
+    let (words, _) = kinds.as_chunks::<KINDS>();
+    for (lane, kinds) in words.iter().enumerate() {
+        let word = word(kinds);
+        tops[lane] |= word;
+        sums[lane] |= sum(word, limit);
     }
 }
 
-// Thirty-two value types from a place on. Each has a lane, which holds the largest of those of the turns so far.
-fn join_types(types: &[u8], place: usize, most: &mut [u8])
-    requires { (place + tokens_a_turn ≤ length types.now) × (length most.old ≡ tokens_a_turn) × Alike most.old place types.now }
-    ensures { Alike most.new (place + tokens_a_turn) types.now }
+// Thirty-two value types more. Each has a lane, which holds the largest of those of the turns so far.
+fn join_types(types: &[u8; TOKENS], most: &mut [u8; TOKENS])
+    ensures { Alike most.new (most.old ++ types.now) }
 {
-    let mut lane: usize = 0;
-    while lane < TOKENS {
-        most[lane] = larger(most[lane], types[place + lane]);
-        lane = lane + 1;
+    for (lane, value_type) in types.iter().enumerate() {
+        most[lane] = most[lane].max(*value_type);
     }
 }
 
 // The words of all lanes put together, and their sums.
-fn joined(tops: &[u64], sums: &[u64]) -> u64
-    requires { (length tops.now ≡ words_a_turn) × (length sums.now ≡ words_a_turn) }
-    ensures { Clear result words_a_turn tops.now sums.now }
+fn joined(tops: &[u64; WORDS], sums: &[u64; WORDS]) -> u64
+    ensures { result ≡ fold (λ all pair. bit_or all (bit_or pair.0 pair.1)) 0 (zip tops.now sums.now) }
 {
-    let mut all: u64 = 0;
-    let mut lane: usize = 0;
-    while lane < WORDS {
-        all = all | tops[lane] | sums[lane];
-        lane = lane + 1;
-    }
-    all
+    tops.iter()
+        .zip(sums)
+        .fold(0, |all: u64, (top, sum)| all | (*top | *sum))
 }
 
-// Whether so many times thirty-two tokens pass. The lanes are kept from turn to turn in a loop that has no way out but its
-// end: it is compiled to vector instructions.
-fn blocks_pass(kinds: &[u8], types: &[u8], blocks: usize, limit: u8, type_limit: u8) -> bool
-    requires { (blocks * tokens_a_turn ≤ length kinds.now) × (blocks * tokens_a_turn ≤ length types.now) × (limit < most_without_top) }
-    ensures { result ≡ none_above limit (take (blocks * tokens_a_turn) kinds.now) && none_above type_limit (take (blocks * tokens_a_turn) types.now) }
+// Whether the tokens of some turns pass. The lanes are kept from turn to turn in a loop that has no way out but its end:
+// it is compiled to vector instructions.
+fn blocks_pass(kinds: &[[u8; TOKENS]], types: &[[u8; TOKENS]], limit: u8, type_limit: u8) -> bool
+    requires { (length types.now ≡ length kinds.now) × (limit < most_without_top) }
+    ensures { result ≡ none_above limit (concat kinds.now) && none_above type_limit (concat types.now) }
 {
-    if blocks == 0 {
+    if kinds.is_empty() {
         return true;
     }
     let mut tops = [0u64; WORDS];
     let mut sums = [0u64; WORDS];
     let mut most = [0u8; TOKENS];
-    let mut done: usize = 0;
-    while done < blocks {
-        join_types(types, done * TOKENS, &mut most);
-        join_words(kinds, done * TOKENS, limit, &mut tops, &mut sums);
-        done = done + 1;
+    // Not by a zip of both, which takes 6 in 100 instructions more on a row of 65,535 tokens.
+    for (block, kinds) in kinds.iter().enumerate() {
+        join_types(&types[block], &mut most);
+        join_words(kinds, limit, &mut tops, &mut sums);
     }
-    (joined(&tops, &sums) & TOPS) == 0 && largest(&most) <= type_limit
+    joined(&tops, &sums) & TOPS == 0 && largest(&most) <= type_limit
 }
 
-// Whether the tokens from a place on pass. They are few, so that their value types take fewer instructions by words than
-// by their largest.
-fn rest_tokens_pass(kinds: &[u8], types: &[u8], from: usize, limit: u8, type_limit: u8) -> bool
-    requires { (from ≤ length kinds.now) × (from ≤ length types.now) × (limit < most_without_top) × (type_limit < most_without_top) }
-    ensures { result ≡ none_above limit (drop from kinds.now) && none_above type_limit (drop from types.now) }
+// Whether the tokens after the last turn pass. They are few, so that their value types take fewer instructions by words
+// than by their largest.
+fn rest_tokens_pass(kinds: &[u8], types: &[u8], limit: u8, type_limit: u8) -> bool
+    requires { (limit < most_without_top) × (type_limit < most_without_top) }
+    ensures { result ≡ none_above limit kinds.now && none_above type_limit types.now }
 {
-    none_above(&kinds[from..], limit) && none_above(&types[from..], type_limit)
+    none_above(kinds, limit) && none_above(types, type_limit)
 }
 
 // Whether no kind is above its limit, and no value type above its own.
@@ -193,7 +148,8 @@ pub fn tokens_pass(kinds: &[u8], types: &[u8], limit: u8, type_limit: u8) -> boo
     requires { (length types.now ≡ length kinds.now) × (limit < most_without_top) × (type_limit < most_without_top) }
     ensures { result ≡ none_above limit kinds.now && none_above type_limit types.now }
 {
-    let blocks = kinds.len() / TOKENS;
-    blocks_pass(kinds, types, blocks, limit, type_limit)
-        && rest_tokens_pass(kinds, types, blocks * TOKENS, limit, type_limit)
+    let (kind_blocks, kind_rest) = kinds.as_chunks::<TOKENS>();
+    let (type_blocks, type_rest) = types.as_chunks::<TOKENS>();
+    blocks_pass(kind_blocks, type_blocks, limit, type_limit)
+        && rest_tokens_pass(kind_rest, type_rest, limit, type_limit)
 }

@@ -1,25 +1,30 @@
 -- `kinds::blocks_pass` meets its contract: the tokens before the present ones are known by their words and their value types.
-use Rattle.std.proofs.Common.{rules}
-use Rattle.kinds.proofs.Laws.{block_room, types-block, words-block, no-types, no_words, no_block, blocks-known, blocks-fail}
+use Rattle.std.proofs.Common.{rules, arith}
+use Rattle.kinds.proofs.Laws.{no-types, no-words, no_block, next-types, next-kinds, blocks-pass, blocks-fail}
 use Rattle.kinds.proofs.blocks_pass.Goals as goal
 
-pub returns-then-blocks-eq0 : goal.returns-then-blocks-eq0
-returns-then-blocks-eq0 c = search (rules, no_block)
+pub returns-then-is_empty : goal.returns-then-is_empty
+returns-then-is_empty c = no_block _ _ _ _ (grind arith) c.requires.0
 
-pub loop-done-init : goal.loop-done-init
-loop-done-init c = (search rules, search rules, search rules, search rules, no-types 32 _, no_words _ _)
+pub loop-block-init : goal.loop-block-init
+loop-block-init c = (search rules, search rules, no-types 32, no-words c.args.limit 4)
 
-pub join_types-requires : goal.join_types-requires
-join_types-requires c = (search (rules, block_room), search rules, search rules)
-
-pub join_words-requires : goal.join_words-requires
-join_words-requires c = (search (rules, block_room), search rules, search rules, search rules, search rules)
-
-pub loop-done-preserved : goal.loop-done-preserved
-loop-done-preserved c = (search rules, search rules, search rules, search rules, search (rules, types-block), search (rules, words-block))
+pub loop-block-preserved : goal.loop-block-preserved
+loop-block-preserved c = (
+  search rules,
+  search rules,
+  search (rules, next-types),
+  next-kinds _ _ c.loop-block-test.true (c.join_words.ensures _ c.loop-block.invariant.3),
+)
 
 pub returns-then-joined-eq0 : goal.returns-then-joined-eq0
-returns-then-joined-eq0 c = search (rules, blocks-known)
+returns-then-joined-eq0 c =
+    let (t, s, g, f) = c.loop-block.invariant in
+    blocks-pass _ _ _ f g c.loop-block-test.false c.requires.0 t s c.joined.ensures c.args.type_limit
+    c.if-joined-eq0.true c.largest.ensures
 
 pub returns-else-joined-eq0 : goal.returns-else-joined-eq0
-returns-else-joined-eq0 c = search (rules, blocks-fail)
+returns-else-joined-eq0 c =
+    let (t, s, g, f) = c.loop-block.invariant in
+    blocks-fail _ _ _ f g c.loop-block-test.false c.requires.0 t s c.joined.ensures c.args.type_limit
+    c.if-joined-eq0.false
