@@ -1,5 +1,4 @@
--- The record of the node count and the open list, as the walks have it, and what two functions over it differ in: for
--- each, the contract with the record by value and the contract with the record lent.
+-- The record of the node count and the open list, and the words, as the walks have them.
 use mathlib.Core.Path.{◌≡◌, refl}
 use Prim.Native.Nat.{ℕ}
 use mathlib.Core.List.{List, [], ◌∷◌}
@@ -7,35 +6,37 @@ use lib.ListN.{length}
 use seplogic.Ra.Ura.{Ura}
 use base.Fraction.{full_share}
 use lib.Dec.{T}
-use mir.Syntax.{Lifetime, Ty, ty_ref, erased, mut, deref, field, place, copy, addr_of, aggregate}
+use mir.Syntax.{Lifetime, Ty, ty_ref, erased, mut, w32, deref, field, place, copy, addr_of, aggregate}
 use mir.Syntax.{Body as Code, seq, assign}
 use mir.Val.{Val, vptr, has_ty, WT}
 use base.Fml.{Lft, Fml, fsep, feq, fat, fbor, froom}
 use prog.Wp.{Env, Calls, Loops, spot_of}
 use types.Logic.{Logic}
-use contract.Monad.{fact}
 use types.Kit.{Item, Goal, Post, Seq, Step, step, runs, nth, put, ‵, ◌$◌, move, fsplit, fjoin, feq_l}
 use types.Hole.{Holey}
 use types.SemTy.{Arr, Body}
 use types.Part.{agg, whole, sub, look_in}
 use types.Run.{look, init, stop, hop, fld, load, addr, and_then, no_more, assigns}
 use denote.Builtin.{u32}
-use denote.Exit.{yes}
+use denote.Laws.{Is}
 use denote.Memory.{mem}
 use denote.Ref.{MutBor}
-use denote.Signature.{plain, mut_ref_to, mut_slice_of}
 use denote.Slice.{slice_val, slice_ty, finally}
 use denote.Struct.Laws as LL
-use denote.Triple.Clauses.{Ended, Clauses, closing}
-use denote.Triple.Spec.{triple_of}
-use denote.Triple.Statement.{Contract}
-use Rattle.walks.proofs.Extra.{Extra, Values, slots, kepts, out}
 use Rattle.walks.proofs.Operands.{within, found}
-use Rattle.walks.proofs.Plain.{Plain, Pair, struct}
+use Rattle.walks.proofs.Plain.{Plain, Argument, number, struct, enum, result}
 use Rattle.walks.proofs.Whole.{Whole}
-use Rattle.codes.specs.declared.TokenId.{TokenId}
+use Rattle.codes.specs.declared.Read.{Read}
 use Rattle.codes.specs.contracts.TokenId as I
 use Rattle.codes.proofs.TokenId.TheLaws as I'
+use Rattle.codes.specs.contracts.NodeId as N
+use Rattle.codes.proofs.NodeId.TheLaws as N'
+use Rattle.codes.specs.contracts.Read as D
+use Rattle.codes.proofs.Read.TheLaws as D'
+use Rattle.codes.specs.contracts.ParsingError as X
+use Rattle.codes.proofs.ParsingError.TheLaws as X'
+use Rattle.nodes.specs.contracts.ActiveList as A
+use Rattle.nodes.proofs.ActiveList.TheLaws as A'
 use Rattle.buffer.specs.declared.ParseBuffer.{ParseBuffer}
 use Rattle.buffer.specs.contracts.ParseBuffer as P
 use Rattle.buffer.proofs.ParseBuffer.TheLaws as P'
@@ -66,64 +67,75 @@ Gone κ x ws =
 abbrev pub cursor : Plain
 cursor = struct I.the_type I'.the_laws I'.the_plain I'.the_copy
 
--- What two functions over the record and the words differ in, beside the parameters X behind the cursor: what they
--- answer, the struct of the answer and the record, what they ask of the record, the words and X, and what they promise
--- of the record and the words before and after.
-pub record Way (X : Extra) : Type 2 where
-  pub answer : Plain
-  pub step : Pair answer B
-  pub Asks : ParseBuffer → List ℕ → Values X → Type 0
-  pub Gives : TokenId → ParseBuffer → List ℕ → Values X → answer.row.Denot → ParseBuffer → List ℕ → Type 0
+abbrev pub word : Plain
+word = number w32
 
-module _ (X : Extra) (Y : Way X) where
-  -- the record by value
-  abbrev pub passed : Ended
-  passed = record {
-    signature = record {
-      lifetimes = 1;
-      outlives = [];
-      params = mut_slice_of (0 ∷ []) tt (plain (λ _. u32)) ∷ plain (λ _. I.the_row) ∷ plain (λ _. P.the_row) ∷ slots 1 X;
-      result = plain (λ _. Y.step.row);
-    };
-    kept = (yes, (yes, (yes, kepts 1 X)));
+abbrev pub parsing-error : Argument
+parsing-error = record {
+  row = X.the_row;
+  laws = X'.the_row_laws;
+  told = X'.the_told;
+  plain = X'.the_row_plain;
+  copy = X'.the_row_copy;
+}
+
+abbrev pub node-id : Argument
+node-id = record {
+  row = N.the_row;
+  laws = N'.the_row_laws;
+  told = N'.the_told;
+  plain = N'.the_row_plain;
+  copy = N'.the_row_copy;
+}
+
+abbrev pub list-of : Argument
+list-of = record {
+  row = A.the_row;
+  laws = A'.the_row_laws;
+  told = A'.the_told;
+  plain = A'.the_row_plain;
+  copy = A'.the_row_copy;
+}
+
+abbrev pub list : Plain
+list = enum A.the_type A'.the_laws tt A'.the_plain A'.the_copy
+
+-- what is read, with the cursor and the count, and the answer of a function that reads it
+module _ (T : Argument) where
+  abbrev pub read : Plain
+  read = struct (D.the_type T.row) (D'.the_laws T.row T.laws T.told) (D'.the_plain T.row T.plain)
+      (D'.the_copy T.row T.laws T.copy)
+
+  abbrev pub read-of : Argument
+  read-of = record {
+    row = D.the_row T.row;
+    laws = D'.the_row_laws T.row T.laws;
+    told = D'.the_told T.row T.laws T.told;
+    plain = D'.the_row_plain T.row T.plain;
+    copy = D'.the_row_copy T.row T.laws T.copy;
   }
 
-  -- and lent
-  abbrev pub lent : Ended
-  lent = record {
-    signature = record {
-      lifetimes = 2;
-      outlives = [];
-      params = mut_ref_to (0 ∷ []) tt (plain (λ _. P.the_row)) ∷ mut_slice_of (1 ∷ []) tt (plain (λ _. u32)) ∷ plain
-          (λ _. I.the_row) ∷ slots 2 X;
-      result = plain (λ _. Y.answer.row);
-    };
-    kept = (yes, (yes, (yes, kepts 2 X)));
-  }
+  abbrev pub answer : Plain
+  answer = result read-of parsing-error
 
-  module _ {M : Type 1} (𝓤 : Ura M) where
-    abbrev pub passed-clauses : Clauses 𝓤 passed
-    passed-clauses κs a = record {
-      ghost = Unit {0};
-      requires = λ _. fact 𝓤 (Y.Asks a.1.1.0 a.0.now (out 1 κs X a.1.1.1));
-      ensures = λ _ s e. fact 𝓤 (Y.Gives a.1.0 a.1.1.0 a.0.now (out 1 κs X a.1.1.1) (Y.step.fst s)
-          (Y.step.snd s) e.0.now);
-    }
+  -- its parts are of their types
+  pub read-count : (v : Read T.row.Denot) → Is read.row v (read.val v ∷ []) →
+      Is word.row v.count (word.val v.count ∷ [])
+  read-count v is = (LL.owed (D.the_type T.row) (D'.the_laws T.row T.laws T.told) v _ is).1.0
 
-    abbrev pub lent-clauses : Clauses 𝓤 lent
-    lent-clauses κs a = record {
-      ghost = Unit {0};
-      requires = λ _. fact 𝓤 (Y.Asks a.0.now a.1.0.now (out 2 κs X a.1.1.1));
-      ensures = λ _ r e. fact 𝓤 (Y.Gives a.1.1.0 a.0.now a.1.0.now (out 2 κs X a.1.1.1) r
-          e.0.now e.1.0.now);
-    }
+  pub read-value : (v : Read T.row.Denot) → Is read.row v (read.val v ∷ []) → Is T.row v.value (T.told.val v.value ∷ [])
+  read-value v is = (LL.owed (D.the_type T.row) (D'.the_laws T.row T.laws T.told) v _ is).1.1.0
 
-    module _ (𝓛 : Logic 𝓤) where
-      abbrev pub Passed : Contract 𝓤
-      Passed = triple_of 𝓛 passed.signature (closing 𝓛 passed passed-clauses)
+-- the parts of a record are of their types, and of such parts it is made
+pub count-is : (b : ParseBuffer) → Is P.the_row b (B.val b ∷ []) → Is word.row b.count (word.val b.count ∷ [])
+count-is b is = (LL.owed P.the_type P'.the_laws b _ is).0
 
-      abbrev pub Lent : Contract 𝓤
-      Lent = triple_of 𝓛 lent.signature (closing 𝓛 lent lent-clauses)
+pub list-is : (b : ParseBuffer) → Is P.the_row b (B.val b ∷ []) → Is list.row b.list (list.val b.list ∷ [])
+list-is b is = (LL.owed P.the_type P'.the_laws b _ is).1.0
+
+pub record-is : (b : ParseBuffer) → Is word.row b.count (word.val b.count ∷ []) →
+    Is list.row b.list (list.val b.list ∷ []) → Is P.the_row b (B.val b ∷ [])
+record-is b n l = LL.owes P.the_type P'.the_laws b (n, (l, tt))
 
 module _ {M : Type 1} {𝓤 : Ura M} {𝓛 : Logic 𝓤} {K : Type 0} {Γ : List (Item 𝓤)} where
   -- The words in the local s are lent again: their pointer goes to the local a, and the slice made of that to the local

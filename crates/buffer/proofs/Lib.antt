@@ -1,5 +1,9 @@
+pub mod Calls
 pub mod Changed
+pub mod Counts
+pub mod Forms
 pub mod Held
-pub mod Laws
 pub mod Lending
+pub mod Lists
+pub mod Walked
 pub mod Ways

@@ -1,71 +1,69 @@
--- append and append_item, and the functions with the record by value, as `Held.antt` has what they differ in.
+-- append and append_item, and the functions with the record by value, as `Forms.antt` has what they differ in.
 use Prim.Native.Nat.{◌≤◌}
-use mir.Syntax.{w8, w32}
+use mathlib.Core.Path.{refl}
 use Rattle.rules.specs.Codes.Limit as Limits
-use Rattle.walks.proofs.Extra.{none, two}
-use Rattle.walks.proofs.Plain.{Plain, Pair, number, struct, enum}
+use Rattle.rules.specs.Words.{append, push_list_item}
+use Rattle.codes.specs.Words.{As, Gives, nodes}
+use Rattle.codes.specs.contracts.Node as M
+use Rattle.codes.proofs.Node.TheLaws as M'
+use Rattle.nodes.specs.Answer.{WithinSlots, ends, listed, past}
+use Rattle.walks.proofs.Extra.{none, one}
+use Rattle.walks.proofs.Plain.{Plain, Argument, Pair, struct}
 use denote.Struct.Laws as LL
-use Rattle.codes.specs.contracts.Parsed as A
-use Rattle.codes.proofs.Parsed.TheLaws as A'
-use Rattle.nodes.specs.contracts.Listed as L
-use Rattle.nodes.proofs.Listed.TheLaws as L'
-use Rattle.nodes.specs.Answer.{WithinSlots, past}
 use Rattle.buffer.specs.Answer.{Appends, AppendsItem}
 use Rattle.buffer.specs.contracts.Appended as X
 use Rattle.buffer.proofs.Appended.TheLaws as X'
-use Rattle.buffer.specs.contracts.AppendedItem as Y
-use Rattle.buffer.proofs.AppendedItem.TheLaws as Y'
-use Rattle.buffer.proofs.Held.{Way, B}
+use Rattle.buffer.proofs.Held.{B, node-id, list-of, answer}
+use Rattle.buffer.proofs.Forms.{Counting, counted, Listing, relisted, Pairing}
 
-abbrev parsed : Plain
-parsed = enum A.the_type A'.the_laws tt A'.the_plain A'.the_copy
+-- the struct of an answer and the record, whole and by its parts
+abbrev whole-appended : Argument → Plain
+whole-appended T =
+    struct (X.the_type T.row) (X'.the_laws T.row T.laws T.told) (X'.the_plain T.row T.plain)
+    (X'.the_copy T.row T.laws T.copy)
 
-abbrev listed : Plain
-listed = enum L.the_type L'.the_laws tt L'.the_plain L'.the_copy
-
-abbrev appended : Pair parsed B
-appended = record {
-  name = (X.the_type).name;
-  row = X.the_row;
+abbrev appended : (T : Argument) → Pair (answer T) B
+appended T = record {
+  name = (X.the_type T.row).name;
+  row = X.the_row T.row;
   fst = λ s. s.reply;
   snd = λ s. s.buffer;
   make = λ r b. record { reply = r; buffer = b };
   made = λ r b Q e. e;
-  tells = LL.tells X.the_type X'.the_laws;
-  parts = λ s vs is. ((LL.owed X.the_type X'.the_laws s vs is).0, (LL.owed X.the_type X'.the_laws s vs is).1.0);
-  whole = λ r b is is'. LL.owes X.the_type X'.the_laws (record { reply = r; buffer = b }) (is, (is', tt));
-  typed = (struct X.the_type X'.the_laws X'.the_plain X'.the_copy).typed;
-  makes = (struct X.the_type X'.the_laws X'.the_plain X'.the_copy).makes;
+  tells = LL.tells (X.the_type T.row) (X'.the_laws T.row T.laws T.told);
+  parts = λ s vs is. (
+    (LL.owed (X.the_type T.row) (X'.the_laws T.row T.laws T.told) s vs is).0,
+    (LL.owed (X.the_type T.row) (X'.the_laws T.row T.laws T.told) s vs is).1.0,
+  );
+  whole = λ r b is is'.
+      LL.owes (X.the_type T.row) (X'.the_laws T.row T.laws T.told) (record { reply = r; buffer = b }) (is, (is', tt));
+  typed = (whole-appended T).typed;
+  makes = (whole-appended T).makes;
 }
 
-abbrev appended-item : Pair listed B
-appended-item = record {
-  name = (Y.the_type).name;
-  row = Y.the_row;
-  fst = λ s. s.reply;
-  snd = λ s. s.buffer;
-  make = λ r b. record { reply = r; buffer = b };
-  made = λ r b Q e. e;
-  tells = LL.tells Y.the_type Y'.the_laws;
-  parts = λ s vs is. ((LL.owed Y.the_type Y'.the_laws s vs is).0, (LL.owed Y.the_type Y'.the_laws s vs is).1.0);
-  whole = λ r b is is'. LL.owes Y.the_type Y'.the_laws (record { reply = r; buffer = b }) (is, (is', tt));
-  typed = (struct Y.the_type Y'.the_laws Y'.the_plain Y'.the_copy).typed;
-  makes = (struct Y.the_type Y'.the_laws Y'.the_plain Y'.the_copy).makes;
-}
+abbrev pub node : Plain
+node = struct M.the_type M'.the_laws M'.the_plain M'.the_copy
 
--- the kind and the load
-abbrev pub appending : Way (two (number w8) (number w32))
-appending = record {
-  answer = parsed;
-  step = appended;
-  Asks = λ b ws x. WithinSlots ws b.count × (x.1 ≤ Limits.Load);
+abbrev pub counting : Counting (one node)
+counting = record {
+  Asks = λ n ws x. WithinSlots ws n × (x.1 ≤ Limits.Load);
+  Says = λ c n ws x r ws'. Gives (append x.0 x.1) c.0 (nodes ws n) r ws';
   Gives = λ c b ws x r b' ws'. Appends c.0 b ws x.0 x.1 r b' ws';
+  done = λ c b ws x v ws' e. record { node = e; buffer = refl };
+  refused = λ c b ws x d ws' e. record { node = e; buffer = refl };
 }
 
-abbrev pub appending-item : Way none
-appending-item = record {
-  answer = listed;
-  step = appended-item;
-  Asks = λ b ws x. WithinSlots ws b.count × (past b.list ≤ b.count);
-  Gives = λ c b ws x r b' ws'. AppendsItem c.0 b ws r b' ws';
+abbrev pub listing : Listing
+listing = record {
+  Asks = λ n ws l. WithinSlots ws n × (past l ≤ n);
+  Says = λ c n ws l r ws'. As listed (push_list_item (ends l)) c.0 (nodes ws n) r ws';
+  Gives = λ c b ws r b' ws'. AppendsItem c.0 b ws r b' ws';
+  done = λ c b ws v ws' e. record { item = e; buffer = refl };
+  refused = λ c b ws d ws' e. record { item = e; buffer = refl };
 }
+
+abbrev pub appending : Pairing (one node)
+appending = record { way = counted counting; step = appended node-id }
+
+abbrev pub appending-item : Pairing none
+appending-item = record { way = relisted listing; step = appended list-of }

@@ -1,24 +1,30 @@
 -- What the checks tell, and what holds where they passed.
 use mathlib.Core.Path.{◌≡◌, refl, sym, ◌∙◌, ap}
-use mathlib.Core.Bool.{Bool, true, false, not, ◌&&◌, true≢false}
+use mathlib.Core.Bool.{Bool, true, false, cond, not, ◌&&◌, true≢false}
 use mathlib.Core.List.{List, [], ◌∷◌, map}
 use mathlib.Core.Logic.{◌≢◌}
 use mathlib.Core.Option.{some, none}
 use Prim.Native.Nat.{ℕ, zero, suc, ◌+◌, ◌-◌, ◌≤◌, ◌<◌}
 use native.Mathlib.Omega.{arith}
-use lib.ListN.{length, length-map, get_or}
+use lib.ListN.{length, length-map, get_or, drop}
 use lib.Dec.{eqb, ltb}
-use borrow.Author.Tests.{ltb-true, ltb-false, eqb-true, eqb-false, lt-ltb, le-ltb, eq-eqb, ne_eqb, not-false}
-use Rattle.codes.specs.declared.TokenId.{TokenId}
+use borrow.Author.Tests.{ltb-true, ltb-false, eqb-true, eqb-false, le-ltb, eq-eqb, ne_eqb, not-false}
 use Rattle.codes.specs.Answer.{nodes, row}
 use Rattle.codes.specs.Words.{Sized}
 use Rattle.kinds.proofs.Laws.{at_most}
 use Rattle.kinds.specs.Above.{none_above}
-use Rattle.checks.specs.declared.Checked.{Checked}
-use Rattle.checks.specs.declared.Checked.TheVariants.{Passed, Failed}
-use Rattle.checks.specs.Answer.{check_of, Good}
-use Rattle.checks.specs.Checks.{Check, check, or_else, failing, or, unequal, bad, bad_token, last_check, row_check}
-use Rattle.checks.specs.Checks.{place_check, slots_check, flags_check, word_check, input_check, declaration_check}
+use Rattle.std.specs.Prelude.{Some, None, Ok, Err, IsErrAnd, position, zip}
+use Rattle.std.specs.Prelude.{Option as Optional}
+use Rattle.std.specs.List.{position_from}
+use Rattle.std.proofs.lemmas.List.{drop_more, drop_all}
+use Rattle.std.proofs.lemmas.Slice.Zip.{length-zip}
+use Rattle.std.proofs.lemmas.List.Quantifiers.{position-Some}
+use Rattle.std.proofs.lemmas.Iterator.Adapters.{position_from-zero}
+use Rattle.std.proofs.lemmas.Result.{err_from_is_err_and}
+use Rattle.checks.specs.declared.Failed.{Failed}
+use Rattle.checks.specs.Answer.{Checked, check_of, Good}
+use Rattle.checks.specs.Checks.{Check, check, or_else, or, unequal, bad, bad_token, last_check, row_check}
+use Rattle.checks.specs.Checks.{place_check, slots_check, input_check, declaration_check}
 use Rattle.checks.specs.Checks.{word_declaration_check}
 use Rattle.rules.specs.Codes.{pick}
 use Rattle.rules.specs.Codes.BaseToken as BaseToken
@@ -31,62 +37,73 @@ use Rattle.rules.specs.Places.{place_of, input, Placed}
 use Rattle.rules.specs.Words.{word_kind, word_load}
 use Rattle.rules.specs.Demand as Demand
 
--- one check, and another
-module _ (a b : Checked) where
-  pub first-passed : a ≡ Passed → check_of b ≡ or_else (check_of a) (check_of b)
+-- The laws of several checks in their order: one that passes and the next ones, the last one, and one that refuses.
+module _ {A : Check} {t : Checked} (f : check_of t ≡ A) where
+  pub passes : {u : Unit {0}} → t ≡ Ok u → {x B : Check} → x ≡ B → x ≡ or_else A B
   unfolding or_else
-  first-passed e = rw e refl
+  passes e g = rw (← f, e) g
 
-  pub first-failed : {n : ℕ} {x : TokenId} → a ≡ Failed n x → some (n, x.0) ≡ or_else (check_of a) (check_of b)
+  pub refuses : {d : Failed} → t ≡ Err d → (r : Checked) → IsErrAnd r (λ e. e ≡ d) → (B : Check) → check_of r ≡ or_else A B
   unfolding or_else
-  first-failed e = rw e refl
+  refuses e r h B = let p = err_from_is_err_and r h in rw (← f, e, p.1, p.2) refl
 
 last-check : (c : Check) → or_else c none ≡ c
 unfolding or_else
 last-check none = refl
 last-check (some r) = refl
 
-both : {x a b c d : Check} → x ≡ or_else a b → a ≡ c → b ≡ d → x ≡ or_else c d
-both e f g = e ∙ rw (f, g) refl
+pub ends : {A x : Check} → x ≡ A → x ≡ or_else A none
+ends {A} e = e ∙ sym (last-check A)
 
--- the tokens of a row before any was looked at
-pub all_left : (row : Row) (n : ℕ) → bad_token row 0 n ≡ bad_token row 0 (n - 0)
-all_left row n = let e : n ≡ n - 0 = omega arith in rw (← e) refl
+pub regroup : (A B C : Check) {x : Check} → x ≡ or_else (or_else A B) C → x ≡ or_else A (or_else B C)
+unfolding or_else
+regroup none B C e = e
+regroup (some r) B C e = e
 
--- the tokens of a row, of which those before place passed
-module _ (row : Row) (place : ℕ) (h : bad_token row 0 (length row.kinds) ≡ bad_token row place (length row.kinds
-    - place))
-  where
-    module _ (b : place < length row.kinds) where
-      left : length row.kinds - place ≡ suc (length row.kinds - (place + 1))
-      left = omega arith
+-- the tokens of a row: the first bad one
+abbrev is_bad : ℕ × ℕ → Bool
+is_bad token = bad token.0 token.1
 
-      next :
-          bad_token row 0 (length row.kinds) ≡
-          pick (bad (kind_of row place) (type_of row place)) (some (Refusal.BadToken, place))
-          (bad_token row (place + 1) (length row.kinds - (place + 1)))
-      unfolding bad_token
-      next = h ∙ rw left refl
+abbrev bad_at : Optional ℕ → Check
+bad_at None = none
+bad_at (Some place) = some (Refusal.BadToken, place)
 
-      pub bad_kind :
-          BaseToken.Error < kind_of row place → some (Refusal.BadToken, place) ≡ bad_token row 0 (length row.kinds)
-      bad_kind g = sym (next ∙ rw (lt-ltb _ _ g) refl)
+module _ (tk tv : List ℕ) (e : length tv ≡ length tk) where
+  bad-from :
+      (place left : ℕ) → place + left ≡ length tk →
+      bad_token (row tk tv) place left ≡ bad_at (position_from is_bad place (zip (drop place tk) (drop place tv)))
+  unfolding bad_token
+  bad-from place zero d =
+      let a : drop place tk ≡ [] = drop_all place tk (omega arith) in
+      rw a refl
+  bad-from place (suc left) d =
+      let a : drop place tk ≡ get_or tk place 0 ∷ drop (place + 1) tk = drop_more tk place 0 (omega arith) in
+      let b : drop place tv ≡ get_or tv place 0 ∷ drop (place + 1) tv = drop_more tv place 0 (omega arith) in
+      rw (a, b) (go (bad (get_or tk place 0) (get_or tv place 0)) _ (bad-from (place + 1) left (omega arith)))
+    where
+      go :
+          (b : Bool) {x : Check} (o : Optional ℕ) → x ≡ bad_at o →
+          pick b (some (Refusal.BadToken, place)) x ≡ bad_at (cond b (Some place) o)
+      go true o q = refl
+      go false o q = q
 
-      pub bad-type :
-          kind_of row place ≤ BaseToken.Error → ValueTypeKeyword.Bool < type_of row place →
-          some (Refusal.BadToken, place) ≡ bad_token row 0 (length row.kinds)
-      bad-type f g = sym (next ∙ rw (le-ltb _ _ f, lt-ltb _ _ g) refl)
+  bad-told :
+      {found : Optional ℕ} → found ≡ position is_bad (zip tk tv) → bad_at found ≡ bad_token (row tk tv) 0 (length tk)
+  bad-told f =
+      ap bad_at (f ∙ position_from-zero is_bad (zip tk tv)) ∙ sym (bad-from 0 (length tk) (omega arith))
 
-      pub good-token :
-          kind_of row place ≤ BaseToken.Error → type_of row place ≤ ValueTypeKeyword.Bool →
-          bad_token row 0 (length row.kinds) ≡ bad_token row (place + 1) (length row.kinds - (place + 1))
-      good-token f g = next ∙ rw (le-ltb _ _ f, le-ltb _ _ g) refl
+  pub none-found : None ≡ position is_bad (zip tk tv) → none ≡ bad_token (row tk tv) 0 (length tk)
+  none-found f = bad-told f
 
-    pub good-tokens : length row.kinds ≤ place → none ≡ bad_token row 0 (length row.kinds)
-    unfolding bad_token
-    good-tokens b =
-        let e : length row.kinds - place ≡ 0 = omega arith in
-        sym (h ∙ rw e refl)
+  module _ {place : ℕ} (f : Some place ≡ position is_bad (zip tk tv)) where
+    pub bad-found : some (Refusal.BadToken, place) ≡ bad_token (row tk tv) 0 (length tk)
+    bad-found = bad-told f
+
+    pub bad-place : place < length tk
+    bad-place =
+        let (a, _, _) = position-Some is_bad (zip tk tv) place (0, 0) (sym f) in
+        let b = length-zip tk tv in
+        omega arith
 
 -- a row with no bad token
 both_true : (a b : Bool) → a && b ≡ true → (a ≡ true) × (b ≡ true)
@@ -104,44 +121,20 @@ module _
       let y : get_or tv place 0 ≤ ValueTypeKeyword.Bool = at_most ValueTypeKeyword.Bool tv g place (omega arith) in
       rw (le-ltb _ _ x, le-ltb _ _ y) (none-bad (place + 1) left (omega arith))
 
-  all-good : none ≡ bad_token (row tk tv) 0 (length tk)
-  all-good = sym (none-bad 0 (length tk) (omega arith))
-
--- the row's size
-module _ (tk tv : List ℕ) where
-  pub other-size :
-      (length tv ≡ length tk → ⊥) → some (Refusal.BadRow, 0) ≡ row_check (row tk tv)
-  unfolding or_else
-  other-size h = rw (ne_eqb _ _ h) refl
-
-  pub no-token : length tv ≡ length tk → length tk ≡ 0 → some (Refusal.BadRow, 0) ≡ row_check (row tk tv)
-  unfolding or_else
-  no-token e z = rw (eq-eqb _ _ e, eq-eqb _ _ z) refl
-
-  module _ (e : length tv ≡ length tk) (h : length tk ≡ 0 → ⊥) where
-    pub too_many : Limit.Tokens < length tk → some (Refusal.BadRow, 0) ≡ row_check (row tk tv)
-    unfolding or_else
-    too_many b = rw (eq-eqb _ _ e, ne_eqb _ _ h, lt-ltb _ _ b) refl
-
-    pub row-checked :
-        length tk ≤ Limit.Tokens → {x a b : Check} → x ≡ or_else a b → a ≡ bad_token (row tk tv) 0 (length tk) →
-        b ≡ last_check (row tk tv) → x ≡ row_check (row tk tv)
-    unfolding or_else
-    row-checked b q f g =
-        both q f (g ∙ sym (last-check _)) ∙ rw (eq-eqb _ _ e, ne_eqb _ _ h, le-ltb _ _ b) refl
-
-    pub good-row :
-        length tk ≤ Limit.Tokens → {good : Bool} →
-        good ≡ none_above BaseToken.Error tk && none_above ValueTypeKeyword.Bool tv → Good good (row tk tv)
-    unfolding or_else
-    good-row b {good} f =
-        record {
-          some = λ g. omega arith;
-          few = λ g. b;
-          checked = λ g.
-              let (x, y) = both_true (none_above BaseToken.Error tk) (none_above ValueTypeKeyword.Bool tv) (sym f ∙ g) in
-              sym (row-checked b refl (all-good tk tv x y e) refl);
-        }
+-- a row of a right size, which is good where its kinds and its value types pass
+pub good-row :
+    (tk tv : List ℕ) → length tv ≡ length tk → (length tk ≡ 0 → ⊥) → length tk ≤ Limit.Tokens → {good : Bool} →
+    good ≡ none_above BaseToken.Error tk && none_above ValueTypeKeyword.Bool tv → Good good (row tk tv)
+unfolding or_else
+good-row tk tv e h b {good} f =
+    record {
+      some = λ g. omega arith;
+      few = λ g. b;
+      checked = λ g.
+          let (x, y) = both_true (none_above BaseToken.Error tk) (none_above ValueTypeKeyword.Bool tv) (sym f ∙ g) in
+          rw (eq-eqb _ _ e, ne_eqb _ _ h, le-ltb _ _ b, none-bad tk tv x y e 0 (length tk) (omega arith))
+          (last-check (last_check (row tk tv)));
+    }
 
 pub not_good : (row : Row) → Good false row
 not_good row =
@@ -158,74 +151,6 @@ good-sized tk tv f e = (f.some e, f.few e)
 pub good-checked :
     {good : Bool} {row : Row} → Good good row → good ≡ true → {x : Check} → x ≡ last_check row → x ≡ row_check row
 good-checked f e g = g ∙ sym (f.checked e)
-
--- the row's last token
-module _ (row : Row) where
-  pub ends-well : kind_of row (length row.kinds - 1) ≡ BaseToken.EndOfSource → none ≡ last_check row
-  ends-well e = rw e refl
-
-  pub ends-badly :
-      (kind_of row (length row.kinds - 1) ≡ BaseToken.EndOfSource → ⊥) →
-      some (Refusal.NoEndOfSource, length row.kinds - 1) ≡ last_check row
-  ends-badly h = rw (ne_eqb _ _ h) refl
-
--- a place in it
-module _ (row : Row) (place : ℕ) where
-  pub place-there : place < length row.kinds → none ≡ place_check row place
-  place-there h = rw (lt-ltb _ _ h) refl
-
-  pub place-past : length row.kinds ≤ place → some (Refusal.BadCursor, 0) ≡ place_check row place
-  place-past h = rw (le-ltb _ _ h) refl
-
--- the slots
-module _ (slots loads count : ℕ) where
-  pub other-slots : (loads ≡ slots → ⊥) → some (Refusal.BadColumns, 0) ≡ slots_check slots loads count
-  unfolding or_else
-  other-slots h = rw (ne_eqb _ _ h) refl
-
-  module _ (e : loads ≡ slots) where
-    pub too-many-slots : Limit.Slots < slots → some (Refusal.BadColumns, 0) ≡ slots_check slots loads count
-    unfolding or_else
-    too-many-slots h = rw (eq-eqb _ _ e, lt-ltb _ _ h) refl
-
-    pub count-above : slots ≤ Limit.Slots → slots < count → some (Refusal.BadCount, 0) ≡ slots_check slots loads count
-    unfolding or_else
-    count-above h b = rw (eq-eqb _ _ e, le-ltb _ _ h, lt-ltb _ _ b) refl
-
-    pub count_fits : slots ≤ Limit.Slots → count ≤ slots → none ≡ slots_check slots loads count
-    unfolding or_else
-    count_fits h b = rw (eq-eqb _ _ e, le-ltb _ _ h, le-ltb _ _ b) refl
-
--- the flags, and a word's kind
-pub flags-above : (flags : ℕ) → Limit.Flags < flags → some (Refusal.BadFlags, 0) ≡ flags_check flags
-flags-above flags h = rw (lt-ltb _ _ h) refl
-
-pub flags-fit : (flags : ℕ) → flags ≤ Limit.Flags → none ≡ flags_check flags
-flags-fit flags h = rw (le-ltb _ _ h) refl
-
-module _ (kind : ℕ) where
-  pub kind-below : kind < BaseToken.Word8 → some (Refusal.BadWordKind, 0) ≡ word_check kind
-  kind-below h = rw (lt-ltb _ _ h) refl
-
-  pub kind-above : BaseToken.Word8 ≤ kind → BaseToken.Word128 < kind → some (Refusal.BadWordKind, 0) ≡ word_check kind
-  kind-above h b = rw (le-ltb _ _ h, lt-ltb _ _ b) refl
-
-  pub kind_fits : BaseToken.Word8 ≤ kind → kind ≤ BaseToken.Word128 → none ≡ word_check kind
-  kind_fits h b = rw (le-ltb _ _ h, le-ltb _ _ b) refl
-
--- several checks in their order
-module _ {x a s A : Check} (e : x ≡ or_else a s) (f : a ≡ A) where
-  pub two-checked : {B : Check} → s ≡ B → x ≡ failing (A ∷ B ∷ [])
-  two-checked {B} g = both e f (g ∙ sym (last-check B))
-
-  module _ {b t B : Check} (g : s ≡ or_else b t) (h : b ≡ B) where
-    pub three-checked : {C : Check} → t ≡ C → x ≡ failing (A ∷ B ∷ C ∷ [])
-    three-checked {C} i = both e f (both g h (i ∙ sym (last-check C)))
-
-    pub five-checked :
-        {c u C : Check} → t ≡ or_else c u → c ≡ C → {d v D : Check} → u ≡ or_else d v → d ≡ D → {E : Check} → v ≡ E →
-        x ≡ failing (A ∷ B ∷ C ∷ D ∷ E ∷ [])
-    five-checked i j k l {E} m = both e f (both g h (both i j (both k l (m ∙ sym (last-check E)))))
 
 -- a check that refuses has a number of the list, and its place: the cursor and the count are as given
 abbrev CheckInPlace : ℕ → Nodes → Check → Type 0
@@ -389,7 +314,7 @@ module _ {tk tv ns ls : List ℕ} {c k : ℕ} where
       let (v, w) = both-passed _ _ u in
       (all-sized r p v, place_inside tk tv start q, ltb-false _ _ (passed _ _ _ (both-passed _ _ w).0))
 
-  module _ {t : Checked} (g : t ≡ Passed) where
+  module _ {t : Checked} {u : Unit {0}} (g : t ≡ Ok u) where
     pub input-entered :
         check_of t ≡ input_check (row tk tv) c (length ns) (length ls) k → Entered tk tv c (nodes ns ls k)
     input-entered f = input-passed (sym f ∙ ap check_of g)
@@ -405,39 +330,7 @@ module _ {tk tv ns ls : List ℕ} {c k : ℕ} where
           Entered tk tv c (nodes ns ls k) × (start < length tk) × (flags ≤ Limit.Flags)
       word-entered kind f = declaration-passed start flags (both-passed _ _ (sym f ∙ ap check_of g)).0
 
--- what the readers take for granted
-module _ (tk tv ns ls : List ℕ) (c k : ℕ) {t : Checked} (g : t ≡ Passed) where
-  pub input-sized : check_of t ≡ input_check (row tk tv) c (length ns) (length ls) k → Sized tk tv ls c k
-  input-sized f = (input-entered {ns = ns} g f).sized
-
-  module _ (start flags : ℕ) where
-    module _ (f : check_of t ≡ declaration_check (row tk tv) c (length ns) (length ls) k start flags) where
-      pub declaration-sized : Sized tk tv ls c k
-      declaration-sized = (declaration-entered {ns = ns} g start flags f).0.sized
-
-      pub declaration-start : start ≤ Limit.Load
-      declaration-start =
-          let (e, a, _) = declaration-entered {tk = tk} {tv = tv} {ns = ns} {ls = ls} {c = c} {k = k} g start flags f in
-          omega (arith, e.sized.tokens)
-
-      pub declaration-flags : flags ≤ Limit.Load
-      declaration-flags =
-          let (_, _, b) = declaration-entered {tk = tk} {tv = tv} {ns = ns} {ls = ls} {c = c} {k = k} g start flags f in omega arith
-
-    module _ (kind : ℕ)
-        (f : check_of t ≡ word_declaration_check (row tk tv) c (length ns) (length ls) k start flags kind) where
-      pub word-sized : Sized tk tv ls c k
-      word-sized = (word-entered {ns = ns} g start flags kind f).0.sized
-
-      pub word-start : start ≤ Limit.Load
-      word-start =
-          let (e, a, _) = word-entered {tk = tk} {tv = tv} {ns = ns} {ls = ls} {c = c} {k = k} g start flags kind f in
-          omega (arith, e.sized.tokens)
-
-      pub word_flags : flags ≤ Limit.Load
-      word_flags = let (_, _, b) = word-entered {tk = tk} {tv = tv} {ns = ns} {ls = ls} {c = c} {k = k} g start flags kind f in omega arith
-
--- the same of words, by the check of what they unpack to
+-- a check of words is the one of what they unpack to
 pub words-check :
     (E : ℕ → ℕ → ℕ → Check) (ws : List ℕ) (k : ℕ) {x : Check} → x ≡ E (length ws) (length ws) k →
     x ≡ E (length (map word_kind ws)) (length (map word_load ws)) k

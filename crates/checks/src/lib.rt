@@ -1,202 +1,188 @@
 // What an entry is checked for before it parses, in document 01's order. Any input may be asked about.
 #![tactic(auto)]
 
-ghost use Rattle.std.specs.Prelude.{◌≡◌, ◌≤◌, length};
+ghost use Rattle.std.specs.Prelude.{◌≡◌, ◌≤◌, length, position, zip};
 ghost use Rattle.rules.specs.Codes.Limit as Limits;
-ghost use Rattle.codes.specs.Answer.{row};
+ghost use Rattle.codes.specs.Answer.{row as row_of};
 ghost use Rattle.checks.specs.Answer.{check_of, Good};
-ghost use Rattle.checks.specs.Checks.{or_else, bad_token, last_check, row_check, place_check, slots_check, flags_check, word_check, input_check, declaration_check, word_declaration_check};
+ghost use Rattle.checks.specs.Checks.{or_else, check, bad, bad_token, last_check, size_check};
+ghost use Rattle.checks.specs.Checks.{row_check, place_check, columns_check, slots_check};
+ghost use Rattle.checks.specs.Checks.{flags_check, word_check, input_check, declaration_check};
+ghost use Rattle.checks.specs.Checks.{word_declaration_check};
 
 use codes::{BaseToken, Limit, Refusal, TokenId, ValueTypeKeyword};
 use kinds::tokens_pass;
+use tokens::Row;
 
-// Whether the input passed some checks, or the number and start of the first refusal.
+// The number and start of the first check that refuses.
 #[derive(Clone, Copy)]
-pub enum Checked {
-    Passed,
-    Failed { number: u32, start: TokenId },
+pub struct Failed {
+    pub number: u32,
+    pub start: TokenId,
 }
 
-// The first check's answer, or the second one's where the first passed.
-fn or_else(first: Checked, second: Checked) -> Checked
-    ensures { check_of result ≡ or_else (check_of first) (check_of second) }
+// The answer of every check.
+pub type Checked = Result<(), Failed>;
+
+// The start of a refusal that tells of no token.
+const NOWHERE: TokenId = TokenId(0);
+
+// Refuses what is wrong, with this number and start.
+fn check(wrong: bool, number: u32, start: TokenId) -> Checked
+    ensures { check_of result ≡ check wrong number start.0 }
 {
-    match first {
-        Checked::Passed => second,
-        Checked::Failed { number, start } => Checked::Failed { number, start },
+    if wrong {
+        Err(Failed { number, start })
+    } else {
+        Ok(())
     }
 }
 
-// The first token whose kind or value type is above the last one.
-fn check_each_token(kinds: &[u8], types: &[u8]) -> Checked
-    requires { (length types.now ≡ length kinds.now) × (length kinds.now ≤ Limits.Tokens) }
-    ensures { check_of result ≡ bad_token (row kinds.now types.now) 0 (length kinds.now) }
+// The two lengths of a row.
+fn check_size(row: &Row<'_>) -> Checked
+    ensures { check_of result ≡ size_check (row_of row.now.kinds.now row.now.types.now) }
 {
-    let mut place: usize = 0;
-    while place < kinds.len() {
-        if kinds[place] > BaseToken::Error {
-            return Checked::Failed {
-                number: Refusal::BadToken,
-                start: TokenId(place as u32),
-            };
-        }
-        if types[place] > ValueTypeKeyword::Bool {
-            return Checked::Failed {
-                number: Refusal::BadToken,
-                start: TokenId(place as u32),
-            };
-        }
-        place = place + 1;
+    let size = row.kinds.len();
+    let bad_size = row.types.len() != size || size == 0 || size > Limit::Tokens as usize;
+    check(bad_size, Refusal::BadRow, NOWHERE)
+}
+
+// The place of the first token whose kind or value type is above the last one.
+fn first_bad_token(row: &Row<'_>) -> Option<usize>
+    ensures { result
+        ≡ position (λ token. bad token.0 token.1) (zip row.now.kinds.now row.now.types.now) }
+{
+    row.kinds.iter().zip(row.types).position(|(kind, value_type)| {
+        *kind > BaseToken::Error || *value_type > ValueTypeKeyword::Bool
+    })
+}
+
+// Each token.
+fn check_each_token(row: &Row<'_>) -> Checked
+    requires { (length row.now.types.now ≡ length row.now.kinds.now)
+        × (length row.now.kinds.now ≤ Limits.Tokens) }
+    ensures { check_of result
+        ≡ bad_token (row_of row.now.kinds.now row.now.types.now) 0 (length row.now.kinds.now) }
+{
+    match first_bad_token(row) {
+        Some(place) => Err(Failed {
+            number: Refusal::BadToken,
+            start: TokenId(place as u32),
+        }),
+        None => Ok(()),
     }
-    Checked::Passed
 }
 
 // The last token of a row.
-fn check_last(kinds: &[u8]) -> Checked
-    requires { (1 ≤ length kinds.now) × (length kinds.now ≤ Limits.Tokens) }
-    ensures { check_of result ≡ last_check (row kinds.now kinds.now) }
+fn check_last(row: &Row<'_>) -> Checked
+    requires { (1 ≤ length row.now.kinds.now) × (length row.now.kinds.now ≤ Limits.Tokens) }
+    ensures { check_of result ≡ last_check (row_of row.now.kinds.now row.now.types.now) }
 {
-    let last = kinds.len() - 1;
-    if kinds[last] == BaseToken::EndOfSource {
-        Checked::Passed
-    } else {
-        Checked::Failed {
-            number: Refusal::NoEndOfSource,
-            start: TokenId(last as u32),
-        }
-    }
+    let last = row.kinds.len() - 1;
+    check(
+        row.kinds[last] != BaseToken::EndOfSource,
+        Refusal::NoEndOfSource,
+        TokenId(last as u32),
+    )
 }
 
 // Whether a row has a right size and no bad token.
-fn is_good(kinds: &[u8], types: &[u8]) -> bool
-    ensures { Good result (row kinds.now types.now) }
+fn is_good(row: &Row<'_>) -> bool
+    ensures { Good result (row_of row.now.kinds.now row.now.types.now) }
 {
-    let tokens = kinds.len();
-    if types.len() != tokens {
-        return false;
-    }
-    if tokens == 0 {
-        return false;
-    }
-    if tokens > Limit::Tokens as usize {
-        return false;
-    }
-    tokens_pass(kinds, types, BaseToken::Error, ValueTypeKeyword::Bool)
+    let tokens = row.kinds.len();
+    row.types.len() == tokens
+        && tokens != 0
+        && tokens <= Limit::Tokens as usize
+        && tokens_pass(
+            row.kinds,
+            row.types,
+            BaseToken::Error,
+            ValueTypeKeyword::Bool,
+        )
 }
 
 // The row's size, its tokens, and its last token. Most rows are good: then only the last one is looked at.
-fn check_row(kinds: &[u8], types: &[u8], good: bool) -> Checked
-    requires { Good good (row kinds.now types.now) }
-    ensures { check_of result ≡ row_check (row kinds.now types.now) }
+fn check_row(row: &Row<'_>) -> Checked
+    ensures { check_of result ≡ row_check (row_of row.now.kinds.now row.now.types.now) }
 {
-    if good {
-        return check_last(kinds);
+    if is_good(row) {
+        return check_last(row);
     }
-    let size = kinds.len();
-    let bad_row = Checked::Failed {
-        number: Refusal::BadRow,
-        start: TokenId(0),
-    };
-    if types.len() != size {
-        return bad_row;
-    }
-    if size == 0 {
-        return bad_row;
-    }
-    if size > Limit::Tokens as usize {
-        return bad_row;
-    }
-    or_else(check_each_token(kinds, types), check_last(kinds))
+    check_size(row)?;
+    check_each_token(row)?;
+    check_last(row)
 }
 
 // A cursor or a declaration's start, in a row of so many tokens.
-fn check_place(kinds: &[u8], place: TokenId) -> Checked
-    ensures { check_of result ≡ place_check (row kinds.now kinds.now) place.0 }
+fn check_place(row: &Row<'_>, place: TokenId) -> Checked
+    ensures { check_of result ≡ place_check (row_of row.now.kinds.now row.now.types.now) place.0 }
 {
-    if (place.0 as usize) < kinds.len() {
-        Checked::Passed
-    } else {
-        Checked::Failed {
-            number: Refusal::BadCursor,
-            start: TokenId(0),
-        }
-    }
+    check(
+        place.0 as usize >= row.kinds.len(),
+        Refusal::BadCursor,
+        NOWHERE,
+    )
 }
 
-// The slots of the node columns, and the node count.
+// The row, and the cursor in it.
+fn check_cursor(row: &Row<'_>, cursor: TokenId) -> Checked
+    ensures { let tokens = row_of row.now.kinds.now row.now.types.now in
+        check_of result ≡ or_else (row_check tokens) (place_check tokens cursor.0) }
+{
+    check_row(row)?;
+    check_place(row, cursor)
+}
+
+// The slots of the node columns.
+fn check_columns(slots: usize, loads: usize) -> Checked
+    ensures { check_of result ≡ columns_check slots loads }
+{
+    let bad_columns = loads != slots || slots > Limit::Slots as usize;
+    check(bad_columns, Refusal::BadColumns, NOWHERE)
+}
+
+// These, and the node count.
 fn check_slots(slots: usize, loads: usize, count: u32) -> Checked
     ensures { check_of result ≡ slots_check slots loads count }
 {
-    let bad_columns = Checked::Failed {
-        number: Refusal::BadColumns,
-        start: TokenId(0),
-    };
-    if loads != slots {
-        return bad_columns;
-    }
-    if slots > Limit::Slots as usize {
-        return bad_columns;
-    }
-    if (count as usize) > slots {
-        Checked::Failed {
-            number: Refusal::BadCount,
-            start: TokenId(0),
-        }
-    } else {
-        Checked::Passed
-    }
+    check_columns(slots, loads)?;
+    check(count as usize > slots, Refusal::BadCount, NOWHERE)
 }
 
 // The flags of a declaration.
 fn check_flags(flags: u32) -> Checked
     ensures { check_of result ≡ flags_check flags }
 {
-    if flags > Limit::Flags {
-        Checked::Failed {
-            number: Refusal::BadFlags,
-            start: TokenId(0),
-        }
-    } else {
-        Checked::Passed
-    }
+    check(flags > Limit::Flags, Refusal::BadFlags, NOWHERE)
 }
 
 // The declaring token of a word.
 fn check_word(kind: u8) -> Checked
     ensures { check_of result ≡ word_check kind }
 {
-    let bad_kind = Checked::Failed {
-        number: Refusal::BadWordKind,
-        start: TokenId(0),
-    };
-    if kind < BaseToken::Word8 {
-        return bad_kind;
-    }
-    if kind > BaseToken::Word128 {
-        return bad_kind;
-    }
-    Checked::Passed
+    let bad_kind = kind < BaseToken::Word8 || kind > BaseToken::Word128;
+    check(bad_kind, Refusal::BadWordKind, NOWHERE)
 }
 
 // What an expression and a type are checked for.
 pub fn check_input(
-    kinds: &[u8],
-    types: &[u8],
+    row: &Row<'_>,
     cursor: TokenId,
     slots: usize,
     loads: usize,
     count: u32,
 ) -> Checked
-    ensures { check_of result ≡ input_check (row kinds.now types.now) cursor.0 slots loads count }
+    ensures { check_of result
+        ≡ input_check (row_of row.now.kinds.now row.now.types.now) cursor.0 slots loads count }
 {
-    let state = or_else(check_place(kinds, cursor), check_slots(slots, loads, count));
-    or_else(check_row(kinds, types, is_good(kinds, types)), state)
+    check_cursor(row, cursor)?;
+    check_slots(slots, loads, count)
 }
 
 // What a constant and a struct are checked for.
 pub fn check_declaration(
-    kinds: &[u8],
-    types: &[u8],
+    row: &Row<'_>,
     cursor: TokenId,
     slots: usize,
     loads: usize,
@@ -204,20 +190,19 @@ pub fn check_declaration(
     start: TokenId,
     flags: u32,
 ) -> Checked
-    ensures { check_of result ≡ declaration_check (row kinds.now types.now) cursor.0 slots loads count start.0 flags }
+    ensures { check_of result
+        ≡ declaration_check (row_of row.now.kinds.now row.now.types.now) cursor.0 slots loads count
+        start.0 flags }
 {
-    let state = or_else(check_slots(slots, loads, count), check_flags(flags));
-    let places = or_else(check_place(kinds, start), state);
-    or_else(
-        check_row(kinds, types, is_good(kinds, types)),
-        or_else(check_place(kinds, cursor), places),
-    )
+    check_cursor(row, cursor)?;
+    check_place(row, start)?;
+    check_slots(slots, loads, count)?;
+    check_flags(flags)
 }
 
 // What a word is checked for.
 pub fn check_word_declaration(
-    kinds: &[u8],
-    types: &[u8],
+    row: &Row<'_>,
     cursor: TokenId,
     slots: usize,
     loads: usize,
@@ -226,8 +211,10 @@ pub fn check_word_declaration(
     flags: u32,
     kind: u8,
 ) -> Checked
-    ensures { check_of result ≡ word_declaration_check (row kinds.now types.now) cursor.0 slots loads count start.0 flags kind }
+    ensures { check_of result
+        ≡ word_declaration_check (row_of row.now.kinds.now row.now.types.now) cursor.0 slots loads count
+        start.0 flags kind }
 {
-    let declaration = check_declaration(kinds, types, cursor, slots, loads, count, start, flags);
-    or_else(declaration, check_word(kind))
+    check_declaration(row, cursor, slots, loads, count, start, flags)?;
+    check_word(kind)
 }

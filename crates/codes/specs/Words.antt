@@ -1,7 +1,9 @@
 -- The answers of the readers, which write words, as the rules give them.
 use Rattle.std.specs.Prelude.{ℕ, ◌≤◌, ◌≡◌, List, length}
-use Rattle.codes.specs.declared.Parsed.{Parsed}
-use Rattle.codes.specs.Answer.{Form, answer, parsed, row}
+use Rattle.codes.specs.declared.NodeId.{NodeId}
+use Rattle.codes.specs.declared.Read.{Read}
+use Rattle.codes.specs.Answer.{State}
+use Rattle.codes.specs.Answer.{ParseResult, answer, parsed, row}
 use Rattle.rules.specs.Codes.Limit as Limit
 use Rattle.rules.specs.Reading.{Rule, Row}
 use Rattle.rules.specs.Words.{Words}
@@ -11,33 +13,33 @@ abbrev pub nodes : List ℕ → ℕ → Words
 nodes ws k = record { words = ws; count = k }
 
 -- The answer r and the column ws are what the rule m gives from the cursor c and the nodes s.
-pub record As {A R : Type 0} (F : Form A R) (m : Rule Words A) (c : ℕ) (s : Words) (r : R) (ws : List ℕ) : Type 0 where
-  pub reply : r ≡ answer F (m c s).result (m c s).cursor (m c s).state.count
+pub record As {A T : Type 0} (f : A → State → T) (m : Rule Words A) (c : ℕ) (s : Words) (r : ParseResult T) (ws : List ℕ) : Type 0 where
+  pub reply : r ≡ answer f (m c s).result (m c s).cursor (m c s).state.count
   pub words : ws ≡ (m c s).state.words
 
 -- the same of a rule that reads a node
-abbrev pub Gives : Rule Words ℕ → ℕ → Words → Parsed → List ℕ → Type 0
+abbrev pub Gives : Rule Words ℕ → ℕ → Words → ParseResult (Read NodeId) → List ℕ → Type 0
 Gives = As parsed
 
 -- The same of a reader that does not look at a part of the row: of each of these rows.
-pub record Across {X A R : Type 0} (rows : X → Row) (F : Form A R) (m : Row → Rule Words A) (c : ℕ) (s : Words) (r : R)
+pub record Across {X A T : Type 0} (rows : X → Row) (f : A → State → T) (m : Row → Rule Words A) (c : ℕ) (s : Words) (r : ParseResult T)
     (ws : List ℕ) : Type 0 where
-  pub run : (x : X) → As F (m (rows x)) c s r ws
+  pub run : (x : X) → As f (m (rows x)) c s r ws
 
 -- whatever the value types are, the kinds, or both
-abbrev pub Untyped : {A R : Type 0} → Form A R → (Row → Rule Words A) → List ℕ → ℕ → Words → R → List ℕ → Type 0
-Untyped F m kinds = Across (row kinds) F m
+abbrev pub Untyped : {A T : Type 0} → (A → State → T) → (Row → Rule Words A) → List ℕ → ℕ → Words → ParseResult T → List ℕ → Type 0
+Untyped f m kinds = Across (row kinds) f m
 
-abbrev pub Unkinded : {A R : Type 0} → Form A R → (Row → Rule Words A) → List ℕ → ℕ → Words → R → List ℕ → Type 0
-Unkinded F m types = Across (λ kinds. row kinds types) F m
+abbrev pub Unkinded : {A T : Type 0} → (A → State → T) → (Row → Rule Words A) → List ℕ → ℕ → Words → ParseResult T → List ℕ → Type 0
+Unkinded f m types = Across (λ kinds. row kinds types) f m
 
-abbrev pub Unread : {A R : Type 0} → Form A R → (Row → Rule Words A) → ℕ → Words → R → List ℕ → Type 0
-Unread F m = Across (λ (at : Row). at) F m
+abbrev pub Unread : {A T : Type 0} → (A → State → T) → (Row → Rule Words A) → ℕ → Words → ParseResult T → List ℕ → Type 0
+Unread f m = Across (λ (at : Row). at) f m
 
 -- The same of a reader that appends nothing and reads no value type: whatever these and the column are.
-pub record Quiet {A R : Type 0} (F : Form A R) (m : Row → Rule Words A) (kinds : List ℕ) (c count : ℕ)
-    (r : R) : Type 0 where
-  pub run : (types ws : List ℕ) → As F (m (row kinds types)) c (nodes ws count) r ws
+pub record Quiet {A T : Type 0} (f : A → State → T) (m : Row → Rule Words A) (kinds : List ℕ) (c count : ℕ)
+    (r : ParseResult T) : Type 0 where
+  pub run : (types ws : List ℕ) → As f (m (row kinds types)) c (nodes ws count) r ws
 
 -- What every reader takes for granted of the row's kinds ks and value types vs, of the node column ws, and of its
 -- cursor, which may stand just past the last token, and the node count. The entries refuse all else.

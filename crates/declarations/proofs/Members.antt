@@ -6,9 +6,12 @@ use mathlib.Core.Option.{Option, none}
 use Prim.Native.Nat.{ℕ, ◌-◌, ◌≤◌, ◌<◌}
 use native.Mathlib.Omega.{arith}
 use lib.ListN.{length}
-use Rattle.codes.specs.declared.Parsed.{Parsed}
-use Rattle.codes.specs.declared.TokenId.{TokenId}
-use Rattle.codes.specs.Answer.{row}
+use Rattle.std.specs.Prelude.{Ok, Err}
+use Rattle.codes.specs.declared.NodeId.{NodeId}
+use Rattle.codes.specs.declared.ParsingError.{ParsingError}
+use Rattle.codes.specs.declared.Read.{Read}
+use Rattle.codes.specs.Answer.{State}
+use Rattle.codes.specs.Answer.{ParseResult, row}
 use Rattle.codes.specs.Words.{As, Gives, Sized, nodes}
 use Rattle.codes.proofs.Onto.{Onto, stays, split}
 use Rattle.codes.proofs.Loops.{Going, sets-out, goes-round, held_in, same-held, turn-refused, turn_last, turn-again}
@@ -18,9 +21,9 @@ use Rattle.nodes.specs.Answer.{WithinSlots, ends, active, past}
 use Rattle.nodes.proofs.Laws.{active-ends}
 use Rattle.nodes.proofs.Bounds.{slots}
 use Rattle.references.specs.declared.Stepped.{Stepped}
-use Rattle.references.specs.declared.Stepped.TheVariants.{More, Last, Refused as Stopped}
+use Rattle.references.specs.declared.Stepped.TheVariants.{More, Last}
 use Rattle.references.specs.Answer.{stepped}
-use Rattle.references.proofs.Laws.{holding-stepped}
+use Rattle.references.proofs.Laws.{plain-stepped}
 use Rattle.references.proofs.Bounds.{item-fits, step_fits}
 use Rattle.expressions.proofs.Steps.{more_same, last-same}
 use Rattle.rules.specs.Codes.{pick}
@@ -73,44 +76,48 @@ pub first_member :
 unfolding member_list loop
 first_member tk tv u c s l q = rw q (sets-out _ stays)
 
-module _ (tk tv : List ℕ) (u c₀ : ℕ) {s₀ : Words} (l : ActiveList) (c k : ℕ) {ks : List ℕ}
-    (h : Members tk tv u c₀ s₀ l c (nodes ks k)) {z : Stepped} {ks₁ : List ℕ}
-    (g : As stepped (member_item words (row tk tv) u (ends l)) c (nodes ks k) z ks₁) where
-  pub list-refused : {r : Parsed} → z ≡ Stopped r → Gives (member_list words (row tk tv) u) c₀ s₀ r ks₁
-  list-refused w = turn-refused holding-stepped _ _ _ _ _ h.onto g w
+module _ (tk tv : List ℕ) (u c₀ : ℕ) {s₀ : Words} (l : ActiveList) {c k : ℕ} {ks : List ℕ}
+    (h : Members tk tv u c₀ s₀ l c (nodes ks k)) {z : ParseResult (Read Stepped)}
+    {ks₁ : List ℕ}
+    (g : As stepped (member_item words (row tk tv) u (ends l)) c (nodes ks k) z ks₁)
+  where
+    pub list-refused : {e : ParsingError} → z ≡ Err e → Gives (member_list words (row tk tv) u) c₀ s₀ (Err e) ks₁
+    list-refused q = turn-refused _ _ _ _ _ h.onto g q
 
-  pub list_read :
-      {m : ActiveList} {p : TokenId} {j : ℕ} → z ≡ Last m p j → {r : Parsed} {ks₂ : List ℕ} →
-      Gives (push_end_of_list (ends m)) p.0 (nodes ks₁ j) r ks₂ →
-      Gives (member_list words (row tk tv) u) c₀ s₀ r ks₂
-  list_read {m} w d = turn_last holding-stepped _ _ _ _ _ h.onto g {b = ends m} (last-same w) d
-
-  module _ (y : Sized tk tv ks c k) (f : past l ≤ k) where
     turn-after :
-        (b : Step (Option Ends) (Option Ends)) {p j : ℕ} → z ≡ stepped.read b p j →
-        Sized tk tv ks₁ p j × Round 0 c b p × (past (active (held_in b)) ≤ j)
-    turn-after b q =
-        round-over y holding-stepped.plain (member-item (below (row tk tv)) (omega arith) u (ends l) c)
+        Sized tk tv ks c k → past l ≤ k →
+        (b : Step (Option Ends) (Option Ends)) {t : State} → z ≡ Ok (stepped b t) →
+        Sized tk tv ks₁ t.cursor.0 t.count × Round 0 c b t.cursor.0 × (past (active (held_in b)) ≤ t.count)
+    turn-after y f b q =
+        round-over y plain-stepped (member-item (below (row tk tv)) (omega arith) u (ends l) c)
         (λ m s. past (active m) ≤ s.count)
-        (λ b p s e w. member-fits (row tk tv) u (ends l) e (rw (active-ends l) (omega arith))) g b q
+        (λ b p s e h. member-fits (row tk tv) u (ends l) e (rw (active-ends l) (omega arith))) g b q
 
-    module _ {m : ActiveList} {p : TokenId} {j : ℕ} where
-      pub turn-sized : z ≡ More m p j → Sized tk tv ks₁ p.0 j
-      turn-sized w = (turn-after (again (ends m)) (more_same w)).0
+    module _ {v : Read Stepped} (q : z ≡ Ok v) {m : ActiveList} where
+      pub list_read :
+          v.value ≡ Last m → {r : ParseResult (Read NodeId)} {ks₂ : List ℕ} →
+          Gives (push_end_of_list (ends m)) v.cursor.0 (nodes ks₁ v.count) r ks₂ →
+          Gives (member_list words (row tk tv) u) c₀ s₀ r ks₂
+      list_read x d = turn_last _ _ _ _ _ h.onto g plain-stepped {b = ends m} (last-same q x) d
 
-      pub turn-fits : z ≡ More m p j → past m ≤ j
-      turn-fits w = let e = (turn-after (again (ends m)) (more_same w)).2 in rw (active-ends m) at e
+      module _ (y : Sized tk tv ks c k) (f : past l ≤ k) where
+        pub turn-sized : v.value ≡ More m → Sized tk tv ks₁ v.cursor.0 v.count
+        turn-sized x = (turn-after y f (again (ends m)) (more_same q x)).0
 
-      pub turn-less : z ≡ More m p j → length tk - p.0 < length tk - c
-      turn-less w = let (a, b, e) = turn-after (again (ends m)) (more_same w) in omega (arith, a.at)
+        pub turn-fits : v.value ≡ More m → past m ≤ v.count
+        turn-fits x = let e = (turn-after y f (again (ends m)) (more_same q x)).2 in rw (active-ends m) at e
 
-      pub next-member : z ≡ More m p j → Members tk tv u c₀ s₀ m p.0 (nodes ks₁ j)
-      next-member w =
-          let (a, b, e) = turn-after (again (ends m)) (more_same w) in
-          goes-round _ h (λ x. turn-again holding-stepped _ _ _ _ _ stays g {b = ends m} (more_same w)) b a.at
+        pub turn-less : v.value ≡ More m → length tk - v.cursor.0 < length tk - c
+        turn-less x = let (a, b, e) = turn-after y f (again (ends m)) (more_same q x) in omega (arith, a.at)
 
-      pub list-slots : z ≡ Last m p j → WithinSlots ks₁ j
-      list-slots w = slots (turn-after (done (ends m)) (last-same w)).0
+        pub next-member :
+            v.value ≡ More m → Members tk tv u c₀ s₀ m v.cursor.0 (nodes ks₁ v.count)
+        next-member x =
+            let (a, b, e) = turn-after y f (again (ends m)) (more_same q x) in
+            goes-round _ h (λ n. turn-again _ _ _ _ _ stays g plain-stepped {b = ends m} (more_same q x)) b a.at
 
-      pub list-fits : z ≡ Last m p j → past m ≤ j
-      list-fits w = let e = (turn-after (done (ends m)) (last-same w)).2 in rw (active-ends m) at e
+        pub list-slots : v.value ≡ Last m → WithinSlots ks₁ v.count
+        list-slots x = slots (turn-after y f (done (ends m)) (last-same q x)).0
+
+        pub list-fits : v.value ≡ Last m → past m ≤ v.count
+        list-fits x = let e = (turn-after y f (done (ends m)) (last-same q x)).2 in rw (active-ends m) at e

@@ -7,281 +7,242 @@ ghost use Rattle.std.specs.Prelude.{◌≡◌, ◌+◌, ◌≤◌};
 ghost use Rattle.rules.specs.Codes.Limit as Limits;
 ghost use Rattle.rules.specs.Words.{words};
 ghost use Rattle.rules.specs.Declarations.{opaque, size_of_word, structure, constant_end, typed, value, member, member_item, member_list, members, constant, struct, word};
-ghost use Rattle.codes.specs.Answer.{row};
+ghost use Rattle.codes.specs.Answer.{row as row_of};
 ghost use Rattle.codes.specs.Words.{As, Gives, Quiet, Untyped, Sized, nodes};
 ghost use Rattle.nodes.specs.Answer.{WithinSlots, ends, past};
 ghost use Rattle.tokens.specs.Answer.{consumed};
 ghost use Rattle.references.specs.Answer.{stepped};
 ghost use Rattle.declarations.specs.Answer.{coloned, named, member_typed, declaring, structured, opaque_struct, valued, member_ending};
 
-use codes::{BaseToken, DeclarationFlag, NodeId, ParseNode, Parsed, Refusal, TokenId};
+use codes::{
+    BaseToken, DeclarationFlag, Node, NodeId, ParseNode, ParseResult, Parsed, ParsingError, Read,
+    Refusal, TokenId,
+};
 use expressions::parse_expression;
 use nodes::{
-    ActiveList, Listed, push, push_end_of_list, push_list_item, push_older_node, push_two,
-    start_list,
+    ActiveList, push, push_end_of_list, push_list_item, push_older_node, push_two, start_list,
 };
 use references::Stepped;
-use tokens::{Consumed, consume, consume_optional, peek};
+use tokens::Row;
 use types::{parse_type, short_type};
 
+// Where a declaration starts, and its flags.
+#[derive(Clone, Copy)]
+pub struct Declaration {
+    pub start: TokenId,
+    pub flags: u32,
+}
+
+// A declaration and its name.
+#[derive(Clone, Copy)]
+struct Heading {
+    declaration: Declaration,
+    name: TokenId,
+}
+
 // A colon; or the refusal of this number at the token in its place, which is not taken.
-fn parse_colon(kinds: &[u8], cursor: TokenId, count: u32, number: u32) -> Consumed
+fn parse_colon(row: &Row<'_>, cursor: TokenId, count: u32, number: u32) -> ParseResult<TokenId>
     requires { cursor.0 ≤ Limits.Tokens + 1 }
-    ensures { Quiet consumed (coloned number) kinds.now cursor.0 count result }
+    ensures { Quiet consumed (coloned number) row.now.kinds.now cursor.0 count result }
 {
-    if peek(kinds, cursor) == BaseToken::Colon {
-        Consumed::Next {
-            cursor: TokenId(cursor.0 + 1),
+    let Some(cursor) = row.consume_optional(cursor, BaseToken::Colon) else {
+        return Err(ParsingError {
+            number,
+            start: cursor,
+            end: cursor,
+            cursor,
             count,
-        }
-    } else {
-        Consumed::Wrong {
-            refusal: Parsed::Refused {
-                number,
-                start: cursor,
-                end: cursor,
-                cursor,
-                count,
-            },
-        }
-    }
+        });
+    };
+    Ok(cursor)
 }
 
 // A name and a colon. Where the colon is missing, the refusal has this number.
-fn parse_name(kinds: &[u8], cursor: TokenId, count: u32, number: u32) -> Consumed
+fn parse_name(row: &Row<'_>, cursor: TokenId, count: u32, number: u32) -> ParseResult<TokenId>
     requires { cursor.0 ≤ Limits.Tokens }
-    ensures { Quiet consumed (named number) kinds.now cursor.0 count result }
+    ensures { Quiet consumed (named number) row.now.kinds.now cursor.0 count result }
 {
-    match consume(kinds, cursor, count, BaseToken::Identifier) {
-        Consumed::Next {
-            cursor: after,
-            count: same,
-        } => parse_colon(kinds, after, same, number),
-        Consumed::Wrong { refusal } => Consumed::Wrong { refusal },
-    }
+    let cursor = row.consume(cursor, count, BaseToken::Identifier)?;
+    parse_colon(row, cursor, count, number)
 }
 
 // A name, a colon and a type: the type's node. Where the colon is missing, the refusal has this number.
 fn parse_typed_name(
-    kinds: &[u8],
-    types: &[u8],
+    row: &Row<'_>,
     node_words: &mut [u32],
     cursor: TokenId,
     count: u32,
     unused: u32,
     number: u32,
 ) -> Parsed
-    requires { Sized kinds.now types.now node_words.old cursor.0 count × (1 ≤ number) }
-    ensures { Gives (typed words (row kinds.now types.now) number unused) cursor.0 (nodes node_words.old count) result node_words.new }
+    requires { Sized row.now.kinds.now row.now.types.now node_words.old cursor.0 count
+        × (1 ≤ number) }
+    ensures { Gives (typed words (row_of row.now.kinds.now row.now.types.now) number unused)
+        cursor.0 (nodes node_words.old count) result node_words.new }
 {
-    match parse_name(kinds, cursor, count, number) {
-        Consumed::Next {
-            cursor: after,
-            count: used,
-        } => parse_type(kinds, types, node_words, after, used, unused),
-        Consumed::Wrong { refusal } => refusal,
-    }
+    let cursor = parse_name(row, cursor, count, number)?;
+    parse_type(row, node_words, cursor, count, unused)
 }
 
 // The type of the member at `name`, and the member's node. A type of a single token is read here: parse_type is not
 // compiled into its callers, and a call for each member costs as much as all else of it.
 fn parse_member_type(
-    kinds: &[u8],
-    types: &[u8],
+    row: &Row<'_>,
     node_words: &mut [u32],
     cursor: TokenId,
     count: u32,
     unused: u32,
     name: TokenId,
 ) -> Parsed
-    requires { Sized kinds.now types.now node_words.old cursor.0 count × (name.0 ≤ Limits.Load) }
-    ensures { Gives (member_typed unused name.0 (row kinds.now types.now)) cursor.0 (nodes node_words.old count) result node_words.new }
+    requires { Sized row.now.kinds.now row.now.types.now node_words.old cursor.0 count
+        × (name.0 ≤ Limits.Load) }
+    ensures { Gives (member_typed unused name.0 (row_of row.now.kinds.now row.now.types.now))
+        cursor.0 (nodes node_words.old count) result node_words.new }
 {
-    let kind = ParseNode::IdentifierAndType;
-    let short = short_type(kinds, types, cursor);
-    if short.found && unused > 0 {
+    let member = Node(ParseNode::IdentifierAndType, name.0);
+    if let Some(value_type) = short_type(row, cursor)
+        && unused > 0
+    {
         let next = TokenId(cursor.0 + 1);
-        return push_two(
-            node_words, next, count, short.kind, short.load, kind, name.0,
-        );
+        return push_two(node_words, next, count, value_type, member);
     }
-    let value_type = parse_type(kinds, types, node_words, cursor, count, unused);
-    let Parsed::Node {
-        root: _,
-        cursor: after,
-        count: used,
-    } = value_type
-    else {
-        return value_type;
-    };
-    push(node_words, after, used, kind, name.0)
+    let Read { cursor, count, .. } = parse_type(row, node_words, cursor, count, unused)?;
+    push(node_words, cursor, count, member)
 }
 
 // A member: a name, a colon and a type.
 fn parse_member(
-    kinds: &[u8],
-    types: &[u8],
+    row: &Row<'_>,
     node_words: &mut [u32],
     cursor: TokenId,
     count: u32,
     unused: u32,
 ) -> Parsed
-    requires { Sized kinds.now types.now node_words.old cursor.0 count }
-    ensures { Gives (member words (row kinds.now types.now) unused) cursor.0 (nodes node_words.old count) result node_words.new }
+    requires { Sized row.now.kinds.now row.now.types.now node_words.old cursor.0 count }
+    ensures { Gives (member words (row_of row.now.kinds.now row.now.types.now) unused)
+        cursor.0 (nodes node_words.old count) result node_words.new }
 {
-    match parse_name(kinds, cursor, count, Refusal::MissingMemberType) {
-        Consumed::Next {
-            cursor: after,
-            count: same,
-        } => { parse_member_type(kinds, types, node_words, after, same, unused, cursor) }
-        Consumed::Wrong { refusal } => refusal,
-    }
+    let name = cursor;
+    let cursor = parse_name(row, cursor, count, Refusal::MissingMemberType)?;
+    parse_member_type(row, node_words, cursor, count, unused, name)
 }
 
-// After a member: a comma, or the brace that closes the list; and then the member becomes an item of the list.
+// After a member: a comma, or the brace that closes the list; and then the member becomes an item of the list. It was
+// appended last, so that only the contract names it.
 fn finish_member(
-    kinds: &[u8],
+    row: &Row<'_>,
     node_words: &mut [u32],
     cursor: TokenId,
     count: u32,
     list: ActiveList,
     member: NodeId,
-) -> Stepped
-    requires { (cursor.0 ≤ Limits.Tokens + 1) × WithinSlots node_words.old count × (past list ≤ count) }
-    ensures { Untyped stepped (member_ending (ends list) member.0) kinds.now cursor.0 (nodes node_words.old count) result node_words.new }
+) -> ParseResult<Read<Stepped>>
+    requires { (cursor.0 ≤ Limits.Tokens + 1) × WithinSlots node_words.old count ×
+        (past list ≤ count) }
+    ensures { Untyped stepped (member_ending (ends list) member.0) row.now.kinds.now
+        cursor.0 (nodes node_words.old count) result node_words.new }
 {
     let next = TokenId(cursor.0 + 1);
-    let token = peek(kinds, cursor);
+    let token = row.peek(cursor);
     match token {
         BaseToken::Comma | BaseToken::BraceRight => {
-            match push_list_item(node_words, next, count, list) {
-                Listed::List {
-                    list: grown,
-                    cursor: after,
-                    count: used,
-                } => {
-                    if token == BaseToken::Comma {
-                        return Stepped::More {
-                            list: grown,
-                            cursor: after,
-                            count: used,
-                        };
-                    }
-                    Stepped::Last {
-                        list: grown,
-                        cursor: after,
-                        count: used,
-                    }
-                }
-                Listed::Full { refusal } => Stepped::Refused { refusal },
+            let Read {
+                value: grown,
+                cursor,
+                count,
+            } = push_list_item(node_words, next, count, list)?;
+            if token == BaseToken::Comma {
+                Ok(Read {
+                    value: Stepped::More(grown),
+                    cursor,
+                    count,
+                })
+            } else {
+                Ok(Read {
+                    value: Stepped::Last(grown),
+                    cursor,
+                    count,
+                })
             }
         }
-        _ => Stepped::Refused {
-            refusal: Parsed::Refused {
-                number: Refusal::ExpectedComma,
-                start: cursor,
-                end: cursor,
-                cursor: next,
-                count,
-            },
-        },
+        _ => Err(ParsingError {
+            number: Refusal::ExpectedComma,
+            start: cursor,
+            end: cursor,
+            cursor: next,
+            count,
+        }),
     }
 }
 
 // A member and what follows it, or the closing brace.
 fn parse_member_item(
-    kinds: &[u8],
-    types: &[u8],
+    row: &Row<'_>,
     node_words: &mut [u32],
     cursor: TokenId,
     count: u32,
     unused: u32,
     list: ActiveList,
-) -> Stepped
-    requires { Sized kinds.now types.now node_words.old cursor.0 count × (past list ≤ count) }
-    ensures { As stepped (member_item words (row kinds.now types.now) unused (ends list)) cursor.0 (nodes node_words.old count) result node_words.new }
+) -> ParseResult<Read<Stepped>>
+    requires { Sized row.now.kinds.now row.now.types.now node_words.old cursor.0 count
+        × (past list ≤ count) }
+    ensures { As stepped
+        (member_item words (row_of row.now.kinds.now row.now.types.now) unused (ends list))
+        cursor.0 (nodes node_words.old count) result node_words.new }
 {
-    let closing = consume_optional(kinds, cursor, BaseToken::BraceRight);
-    let from = closing.cursor;
-    if closing.found {
-        return Stepped::Last {
-            list,
-            cursor: from,
+    if let Some(cursor) = row.consume_optional(cursor, BaseToken::BraceRight) {
+        return Ok(Read {
+            value: Stepped::Last(list),
+            cursor,
             count,
-        };
+        });
     }
-    let member = parse_member(kinds, types, node_words, cursor, count, unused);
-    let Parsed::Node {
-        root,
-        cursor: after,
-        count: used,
-    } = member
-    else {
-        return Stepped::Refused { refusal: member };
-    };
-    finish_member(kinds, node_words, after, used, list, root)
+    let Read {
+        value: member,
+        cursor,
+        count,
+    } = parse_member(row, node_words, cursor, count, unused)?;
+    finish_member(row, node_words, cursor, count, list, member)
 }
 
 // The members after the opening brace: their list.
 fn parse_rest_of_members(
-    kinds: &[u8],
-    types: &[u8],
+    row: &Row<'_>,
     node_words: &mut [u32],
-    cursor: TokenId,
-    count: u32,
+    mut cursor: TokenId,
+    mut count: u32,
     unused: u32,
 ) -> Parsed
-    requires { Sized kinds.now types.now node_words.old cursor.0 count }
-    ensures { Gives (member_list words (row kinds.now types.now) unused) cursor.0 (nodes node_words.old count) result node_words.new }
+    requires { Sized row.now.kinds.now row.now.types.now node_words.old cursor.0 count }
+    ensures { Gives (member_list words (row_of row.now.kinds.now row.now.types.now) unused)
+        cursor.0 (nodes node_words.old count) result node_words.new }
 {
     let mut list = start_list();
-    let mut place = cursor.0;
-    let mut used = count;
     loop {
-        let at = TokenId(place);
-        match parse_member_item(kinds, types, node_words, at, used, unused, list) {
-            Stepped::More {
-                list: longer,
-                cursor: after,
-                count: more,
-            } => {
-                list = longer;
-                place = after.0;
-                used = more;
-            }
-            Stepped::Last {
-                list: whole,
-                cursor: end,
-                count: more,
-            } => {
-                return push_end_of_list(node_words, end, more, whole);
-            }
-            Stepped::Refused { refusal } => {
-                return refusal;
-            }
+        let turn = parse_member_item(row, node_words, cursor, count, unused, list)?;
+        cursor = turn.cursor;
+        count = turn.count;
+        match turn.value {
+            Stepped::More(longer) => list = longer,
+            Stepped::Last(whole) => return push_end_of_list(node_words, cursor, count, whole),
         }
     }
 }
 
 // Members in braces, with commas between them and perhaps after the last: their list.
 fn parse_struct_members(
-    kinds: &[u8],
-    types: &[u8],
+    row: &Row<'_>,
     node_words: &mut [u32],
     cursor: TokenId,
     count: u32,
     unused: u32,
 ) -> Parsed
-    requires { Sized kinds.now types.now node_words.old cursor.0 count }
-    ensures { Gives (members words (row kinds.now types.now) unused) cursor.0 (nodes node_words.old count) result node_words.new }
+    requires { Sized row.now.kinds.now row.now.types.now node_words.old cursor.0 count }
+    ensures { Gives (members words (row_of row.now.kinds.now row.now.types.now) unused)
+        cursor.0 (nodes node_words.old count) result node_words.new }
 {
-    match consume(kinds, cursor, count, BaseToken::BraceLeft) {
-        Consumed::Next {
-            cursor: inside,
-            count: same,
-        } => parse_rest_of_members(kinds, types, node_words, inside, same, unused),
-        Consumed::Wrong { refusal } => refusal,
-    }
+    let cursor = row.consume(cursor, count, BaseToken::BraceLeft)?;
+    parse_rest_of_members(row, node_words, cursor, count, unused)
 }
 
 // The last nodes of each declaration: its name, its flags and itself.
@@ -290,31 +251,23 @@ fn push_declaration(
     cursor: TokenId,
     count: u32,
     kind: u8,
-    start: TokenId,
-    flags: u32,
-    name: TokenId,
+    heading: Heading,
 ) -> Parsed
-    requires { WithinSlots node_words.old count × (start.0 ≤ Limits.Load) × (flags ≤ Limits.Load) × (name.0 ≤ Limits.Load) }
-    ensures { Gives (declaring kind start.0 flags name.0) cursor.0 (nodes node_words.old count) result node_words.new }
+    requires { WithinSlots node_words.old count × (heading.declaration.start.0 ≤ Limits.Load)
+        × (heading.declaration.flags ≤ Limits.Load) × (heading.name.0 ≤ Limits.Load) }
+    ensures { Gives
+        (declaring kind heading.declaration.start.0 heading.declaration.flags heading.name.0)
+        cursor.0 (nodes node_words.old count) result node_words.new }
 {
-    let flagged = push_two(
+    let Heading { declaration, name } = heading;
+    let Read { cursor, count, .. } = push_two(
         node_words,
         cursor,
         count,
-        ParseNode::Identifier,
-        name.0,
-        ParseNode::DeclarationFlags,
-        flags,
-    );
-    let Parsed::Node {
-        root: _,
-        cursor: after,
-        count: used,
-    } = flagged
-    else {
-        return flagged;
-    };
-    push(node_words, after, used, kind, start.0)
+        Node(ParseNode::Identifier, name.0),
+        Node(ParseNode::DeclarationFlags, declaration.flags),
+    )?;
+    push(node_words, cursor, count, Node(kind, declaration.start.0))
 }
 
 // The nodes of a struct or word, after its members' list.
@@ -322,65 +275,60 @@ fn push_structure(
     node_words: &mut [u32],
     cursor: TokenId,
     count: u32,
-    start: TokenId,
-    flags: u32,
+    heading: Heading,
     size: u32,
-    name: TokenId,
     list: NodeId,
 ) -> Parsed
-    requires { WithinSlots node_words.old count × (start.0 ≤ Limits.Load) × (flags ≤ Limits.Load) × (size ≤ Limits.Load) × (name.0 ≤ Limits.Load) × (list.0 ≤ Limits.Load) }
-    ensures { Gives (structure words start.0 flags size name.0 list.0) cursor.0 (nodes node_words.old count) result node_words.new }
+    requires { WithinSlots node_words.old count × (heading.declaration.start.0 ≤ Limits.Load)
+        × (heading.declaration.flags ≤ Limits.Load) × (size ≤ Limits.Load) ×
+        (heading.name.0 ≤ Limits.Load) × (list.0 ≤ Limits.Load) }
+    ensures { Gives (structure words heading.declaration.start.0 heading.declaration.flags size
+        heading.name.0 list.0) cursor.0 (nodes node_words.old count) result
+        node_words.new }
 {
-    let sized = push_two(
+    let Read { cursor, count, .. } = push_two(
         node_words,
         cursor,
         count,
-        ParseNode::List,
-        list.0,
-        ParseNode::StructuralType,
-        size,
-    );
-    let Parsed::Node {
-        root: _,
-        cursor: after,
-        count: used,
-    } = sized
-    else {
-        return sized;
-    };
-    let kind = ParseNode::StructureDeclaration;
-    push_declaration(node_words, after, used, kind, start, flags, name)
+        Node(ParseNode::List, list.0),
+        Node(ParseNode::StructuralType, size),
+    )?;
+    push_declaration(
+        node_words,
+        cursor,
+        count,
+        ParseNode::StructureDeclaration,
+        heading,
+    )
 }
 
 // Members in braces, and the nodes of what has them.
 fn parse_structure(
-    kinds: &[u8],
-    types: &[u8],
+    row: &Row<'_>,
     node_words: &mut [u32],
     cursor: TokenId,
     count: u32,
     unused: u32,
-    start: TokenId,
-    flags: u32,
+    heading: Heading,
     size: u32,
-    name: TokenId,
 ) -> Parsed
-    requires { Sized kinds.now types.now node_words.old cursor.0 count × (start.0 ≤ Limits.Load) × (flags ≤ Limits.Load) × (size ≤ Limits.Load) × (name.0 ≤ Limits.Load) }
-    ensures { Gives (structured unused start.0 flags size name.0 (row kinds.now types.now)) cursor.0 (nodes node_words.old count) result node_words.new }
+    requires { Sized row.now.kinds.now row.now.types.now node_words.old cursor.0 count
+        × (heading.declaration.start.0 ≤ Limits.Load) × (heading.declaration.flags ≤ Limits.Load) ×
+        (size ≤ Limits.Load) × (heading.name.0 ≤ Limits.Load) }
+    ensures { Gives (structured unused heading.declaration.start.0 heading.declaration.flags size
+        heading.name.0 (row_of row.now.kinds.now row.now.types.now)) cursor.0
+        (nodes node_words.old count) result node_words.new }
 {
-    let list = parse_struct_members(kinds, types, node_words, cursor, count, unused);
-    let Parsed::Node {
-        root,
-        cursor: after,
-        count: used,
-    } = list
-    else {
-        return list;
-    };
-    push_structure(node_words, after, used, start, flags, size, name, root)
+    let Read {
+        value: list,
+        cursor,
+        count,
+    } = parse_struct_members(row, node_words, cursor, count, unused)?;
+    push_structure(node_words, cursor, count, heading, size, list)
 }
 
-// The flags with OpaqueStruct among them.
+// The flags with OpaqueStruct among them. Flags that are larger than all together stay as they are, as those that have
+// it: so it is told by order, and not set as a bit.
 fn opaque_flags(flags: u32) -> u32
     ensures { result ≡ opaque flags }
 {
@@ -396,68 +344,65 @@ fn push_opaque_struct(
     node_words: &mut [u32],
     cursor: TokenId,
     count: u32,
-    start: TokenId,
-    flags: u32,
-    name: TokenId,
+    heading: Heading,
 ) -> Parsed
-    requires { WithinSlots node_words.old count × (start.0 ≤ Limits.Load) × (flags ≤ Limits.Load) × (name.0 ≤ Limits.Load) }
-    ensures { Gives (opaque_struct start.0 flags name.0) cursor.0 (nodes node_words.old count) result node_words.new }
+    requires { WithinSlots node_words.old count × (heading.declaration.start.0 ≤ Limits.Load)
+        × (heading.declaration.flags ≤ Limits.Load) × (heading.name.0 ≤ Limits.Load) }
+    ensures { Gives (opaque_struct heading.declaration.start.0 heading.declaration.flags heading.name.0)
+        cursor.0 (nodes node_words.old count) result node_words.new }
 {
-    let list = push_end_of_list(node_words, cursor, count, start_list());
-    let Parsed::Node {
-        root,
-        cursor: after,
-        count: used,
-    } = list
-    else {
-        return list;
+    let Heading { declaration, name } = heading;
+    let Read {
+        value: list,
+        cursor,
+        count,
+    } = push_end_of_list(node_words, cursor, count, start_list())?;
+    let declaration = Declaration {
+        flags: opaque_flags(declaration.flags),
+        ..declaration
     };
-    let all = opaque_flags(flags);
-    push_structure(node_words, after, used, start, all, 0, name, root)
+    push_structure(
+        node_words,
+        cursor,
+        count,
+        Heading { declaration, name },
+        0,
+        list,
+    )
 }
 
 // A struct: a name with a semicolon, or with members in braces.
 pub fn parse_struct_declaration(
-    kinds: &[u8],
-    types: &[u8],
+    row: &Row<'_>,
     node_words: &mut [u32],
     cursor: TokenId,
     count: u32,
     unused: u32,
-    start: TokenId,
-    flags: u32,
+    declaration: Declaration,
 ) -> Parsed
-    requires { Sized kinds.now types.now node_words.old cursor.0 count × (start.0 ≤ Limits.Load) × (flags ≤ Limits.Load) }
-    ensures { Gives (struct words (row kinds.now types.now) unused start.0 flags) cursor.0 (nodes node_words.old count) result node_words.new }
+    requires { Sized row.now.kinds.now row.now.types.now node_words.old cursor.0 count
+        × (declaration.start.0 ≤ Limits.Load) × (declaration.flags ≤ Limits.Load) }
+    ensures { Gives (struct words (row_of row.now.kinds.now row.now.types.now) unused
+        declaration.start.0 declaration.flags) cursor.0 (nodes node_words.old count)
+        result node_words.new }
 {
-    match consume(kinds, cursor, count, BaseToken::Identifier) {
-        Consumed::Next {
-            cursor: named,
-            count: same,
-        } => {
-            let semicolon = consume_optional(kinds, named, BaseToken::Semicolon);
-            let after = semicolon.cursor;
-            if semicolon.found {
-                push_opaque_struct(node_words, after, same, start, flags, cursor)
-            } else {
-                parse_structure(
-                    kinds, types, node_words, after, same, unused, start, flags, 0, cursor,
-                )
-            }
-        }
-        Consumed::Wrong { refusal } => refusal,
+    let heading = Heading {
+        declaration,
+        name: cursor,
+    };
+    let cursor = row.consume(cursor, count, BaseToken::Identifier)?;
+    match row.consume_optional(cursor, BaseToken::Semicolon) {
+        Some(cursor) => push_opaque_struct(node_words, cursor, count, heading),
+        None => parse_structure(row, node_words, cursor, count, unused, heading, 0),
     }
 }
 
-// A word's size by its declaring token. What is none is told first: an entry has refused it, so that these two tests are
+// A word's size by its declaring token. What is none is told first: an entry has refused it, so that this test is
 // compiled away.
 fn size_of_word(kind: u8) -> u32
     ensures { result ≡ size_of_word kind }
 {
-    if kind < BaseToken::Word8 {
-        return 0;
-    }
-    if kind > BaseToken::Word128 {
+    if kind < BaseToken::Word8 || kind > BaseToken::Word128 {
         return 0;
     }
     match kind {
@@ -471,157 +416,130 @@ fn size_of_word(kind: u8) -> u32
 
 // A word: a name with members in braces.
 pub fn parse_word_declaration(
-    kinds: &[u8],
-    types: &[u8],
+    row: &Row<'_>,
     node_words: &mut [u32],
     cursor: TokenId,
     count: u32,
     unused: u32,
-    start: TokenId,
-    flags: u32,
+    declaration: Declaration,
     declaring_token: u8,
 ) -> Parsed
-    requires { Sized kinds.now types.now node_words.old cursor.0 count × (start.0 ≤ Limits.Load) × (flags ≤ Limits.Load) }
-    ensures { Gives (word words (row kinds.now types.now) unused start.0 flags declaring_token) cursor.0 (nodes node_words.old count) result node_words.new }
+    requires { Sized row.now.kinds.now row.now.types.now node_words.old cursor.0 count
+        × (declaration.start.0 ≤ Limits.Load) × (declaration.flags ≤ Limits.Load) }
+    ensures { Gives (word words (row_of row.now.kinds.now row.now.types.now) unused
+        declaration.start.0 declaration.flags declaring_token) cursor.0
+        (nodes node_words.old count) result node_words.new }
 {
-    match consume(kinds, cursor, count, BaseToken::Identifier) {
-        Consumed::Next {
-            cursor: named,
-            count: same,
-        } => {
-            let size = size_of_word(declaring_token);
-            parse_structure(
-                kinds, types, node_words, named, same, unused, start, flags, size, cursor,
-            )
-        }
-        Consumed::Wrong { refusal } => refusal,
-    }
+    let heading = Heading {
+        declaration,
+        name: cursor,
+    };
+    let cursor = row.consume(cursor, count, BaseToken::Identifier)?;
+    let size = size_of_word(declaring_token);
+    parse_structure(row, node_words, cursor, count, unused, heading, size)
 }
 
 // A constant's value: `=`, an expression and a semicolon.
 fn parse_value(
-    kinds: &[u8],
-    types: &[u8],
+    row: &Row<'_>,
     node_words: &mut [u32],
     cursor: TokenId,
     count: u32,
     unused: u32,
 ) -> Parsed
-    requires { Sized kinds.now types.now node_words.old cursor.0 count }
-    ensures { Gives (value words (row kinds.now types.now) unused) cursor.0 (nodes node_words.old count) result node_words.new }
+    requires { Sized row.now.kinds.now row.now.types.now node_words.old cursor.0 count }
+    ensures { Gives (value words (row_of row.now.kinds.now row.now.types.now) unused)
+        cursor.0 (nodes node_words.old count) result node_words.new }
 {
-    match consume(kinds, cursor, count, BaseToken::Assignment) {
-        Consumed::Next {
-            cursor: after,
-            count: same,
-        } => {
-            let value = parse_expression(kinds, types, node_words, after, same, unused);
-            let Parsed::Node {
-                root,
-                cursor: end,
-                count: used,
-            } = value
-            else {
-                return value;
-            };
-            match consume(kinds, end, used, BaseToken::Semicolon) {
-                Consumed::Next {
-                    cursor: next,
-                    count: last,
-                } => Parsed::Node {
-                    root,
-                    cursor: next,
-                    count: last,
-                },
-                Consumed::Wrong { refusal } => refusal,
-            }
-        }
-        Consumed::Wrong { refusal } => refusal,
-    }
+    let inside = row.consume(cursor, count, BaseToken::Assignment)?;
+    let Read {
+        value,
+        cursor,
+        count,
+    } = parse_expression(row, node_words, inside, count, unused)?;
+    let cursor = row.consume(cursor, count, BaseToken::Semicolon)?;
+    Ok(Read {
+        value,
+        cursor,
+        count,
+    })
 }
 
-// The nodes of a constant, after its value.
+// The nodes of a constant, after its value, which was appended last, so that only the contract names it.
 fn push_constant(
     node_words: &mut [u32],
     cursor: TokenId,
     count: u32,
-    start: TokenId,
-    flags: u32,
-    name: TokenId,
+    heading: Heading,
     value_type: NodeId,
     value: NodeId,
 ) -> Parsed
-    requires { WithinSlots node_words.old count × (start.0 ≤ Limits.Load) × (flags ≤ Limits.Load) × (name.0 ≤ Limits.Load) × (value_type.0 ≤ Limits.Load) }
-    ensures { Gives (constant_end words start.0 flags name.0 value_type.0 value.0) cursor.0 (nodes node_words.old count) result node_words.new }
+    requires { WithinSlots node_words.old count × (heading.declaration.start.0 ≤ Limits.Load)
+        × (heading.declaration.flags ≤ Limits.Load) × (heading.name.0 ≤ Limits.Load) ×
+        (value_type.0 ≤ Limits.Load) }
+    ensures { Gives (constant_end words heading.declaration.start.0 heading.declaration.flags
+        heading.name.0 value_type.0 value.0) cursor.0 (nodes node_words.old count)
+        result node_words.new }
 {
-    let item = push_older_node(node_words, cursor, count, value_type);
-    let Parsed::Node {
-        root: _,
-        cursor: after,
-        count: used,
-    } = item
-    else {
-        return item;
-    };
-    let kind = ParseNode::ConstantDeclaration;
-    push_declaration(node_words, after, used, kind, start, flags, name)
+    let Read { cursor, count, .. } = push_older_node(node_words, cursor, count, value_type)?;
+    push_declaration(
+        node_words,
+        cursor,
+        count,
+        ParseNode::ConstantDeclaration,
+        heading,
+    )
 }
 
 // After the name and the type of a constant: its value, and its nodes.
 fn parse_rest_of_constant(
-    kinds: &[u8],
-    types: &[u8],
+    row: &Row<'_>,
     node_words: &mut [u32],
     cursor: TokenId,
     count: u32,
     unused: u32,
-    start: TokenId,
-    flags: u32,
-    name: TokenId,
+    heading: Heading,
     value_type: NodeId,
 ) -> Parsed
-    requires { Sized kinds.now types.now node_words.old cursor.0 count × (start.0 ≤ Limits.Load) × (flags ≤ Limits.Load) × (name.0 ≤ Limits.Load) × (value_type.0 ≤ Limits.Load) }
-    ensures { Gives (valued unused start.0 flags name.0 value_type.0 (row kinds.now types.now)) cursor.0 (nodes node_words.old count) result node_words.new }
+    requires { Sized row.now.kinds.now row.now.types.now node_words.old cursor.0 count
+        × (heading.declaration.start.0 ≤ Limits.Load) × (heading.declaration.flags ≤ Limits.Load) ×
+        (heading.name.0 ≤ Limits.Load) × (value_type.0 ≤ Limits.Load) }
+    ensures { Gives (valued unused heading.declaration.start.0 heading.declaration.flags heading.name.0
+        value_type.0 (row_of row.now.kinds.now row.now.types.now)) cursor.0
+        (nodes node_words.old count) result node_words.new }
 {
-    let initial = parse_value(kinds, types, node_words, cursor, count, unused);
-    let Parsed::Node {
-        root: value,
-        cursor: after,
-        count: used,
-    } = initial
-    else {
-        return initial;
-    };
-    push_constant(
-        node_words, after, used, start, flags, name, value_type, value,
-    )
+    let Read {
+        value,
+        cursor,
+        count,
+    } = parse_value(row, node_words, cursor, count, unused)?;
+    push_constant(node_words, cursor, count, heading, value_type, value)
 }
 
 // A constant: a name, a colon, a type and a value.
 pub fn parse_constant_declaration(
-    kinds: &[u8],
-    types: &[u8],
+    row: &Row<'_>,
     node_words: &mut [u32],
     cursor: TokenId,
     count: u32,
     unused: u32,
-    start: TokenId,
-    flags: u32,
+    declaration: Declaration,
 ) -> Parsed
-    requires { Sized kinds.now types.now node_words.old cursor.0 count × (start.0 ≤ Limits.Load) × (flags ≤ Limits.Load) }
-    ensures { Gives (constant words (row kinds.now types.now) unused start.0 flags) cursor.0 (nodes node_words.old count) result node_words.new }
+    requires { Sized row.now.kinds.now row.now.types.now node_words.old cursor.0 count
+        × (declaration.start.0 ≤ Limits.Load) × (declaration.flags ≤ Limits.Load) }
+    ensures { Gives (constant words (row_of row.now.kinds.now row.now.types.now) unused
+        declaration.start.0 declaration.flags) cursor.0 (nodes node_words.old count)
+        result node_words.new }
 {
-    let number = Refusal::MissingConstantType;
-    let typed = parse_typed_name(kinds, types, node_words, cursor, count, unused, number);
-    let Parsed::Node {
-        root,
-        cursor: after,
-        count: used,
-    } = typed
-    else {
-        return typed;
+    let heading = Heading {
+        declaration,
+        name: cursor,
     };
-    parse_rest_of_constant(
-        kinds, types, node_words, after, used, unused, start, flags, cursor, root,
-    )
+    let number = Refusal::MissingConstantType;
+    let Read {
+        value: value_type,
+        cursor,
+        count,
+    } = parse_typed_name(row, node_words, cursor, count, unused, number)?;
+    parse_rest_of_constant(row, node_words, cursor, count, unused, heading, value_type)
 }

@@ -6,18 +6,19 @@
 // be left out. Cursor, node count, declaration start and flags are then 0; `kind`, the declaring token of a word, is
 // 47; `slots`, those of the node kinds, are 64; `loads`, those of the node loads, are as many as slots; and `types`,
 // the length of the value-type column, is the number of tokens.
-ghost use Rattle.std.specs.Prelude.{◌≤◌, length};
+ghost use Rattle.std.specs.Prelude.{◌≤◌, IfSome};
 ghost use Rattle.entry_rows.specs.QuestionLimits as QuestionLimits;
 ghost use Rattle.entry_rows.specs.Fits.{SizesFit, Fits};
 
 use codes::BaseToken;
+use lines::{after, skip, split_once, trim};
 use node_slots::SLOTS;
-use row_text::TOKENS;
+use row_text::{TOKENS, Tokens, setting};
 
 // A cursor, a count, a start and flags are any 32-bit numbers, a kind is any byte.
-const ANY: u32 = 4_294_967_295;
+const ANY: u32 = u32::MAX;
 
-const BYTE: u32 = 255;
+const BYTE: u32 = u8::MAX as u32;
 
 const USUAL_SLOTS: u32 = 64;
 
@@ -34,6 +35,14 @@ pub enum Entry {
     Word,
 }
 
+const ENTRIES: [(&str, Entry); 5] = [
+    ("expression", Entry::Expression),
+    ("type", Entry::Type),
+    ("constant", Entry::Constant),
+    ("struct", Entry::Struct),
+    ("word", Entry::Word),
+];
+
 // What an entry is given besides the columns.
 #[derive(Clone, Copy)]
 pub struct Question {
@@ -45,147 +54,75 @@ pub struct Question {
     pub kind: u8,
 }
 
-// What a line says: where its text ends, the question, and how long each column is; or that the line is bad.
+// How long each column is, but for the kinds of tokens.
 #[derive(Clone, Copy)]
-pub struct Row {
-    pub good: bool,
-    pub text: usize,
-    pub question: Question,
-    pub tokens: usize,
+pub struct Sizes {
     pub types: usize,
     pub slots: usize,
     pub loads: usize,
 }
 
-// An entry and the place after its name; where none was found, the place that was given.
+// What a line says besides its tokens.
 #[derive(Clone, Copy)]
-struct NamedEntry(Entry, usize);
-
-// A question and the place after it.
-#[derive(Clone, Copy)]
-struct AskedQuestion {
-    good: bool,
-    question: Question,
-    next: usize,
+pub struct Row<'a> {
+    pub text: &'a [u8],
+    pub question: Question,
+    pub sizes: Sizes,
 }
 
-// The lengths of columns and the place after them.
-#[derive(Clone, Copy)]
-struct Sizes {
-    good: bool,
-    slots: u32,
-    loads: u32,
-    types: u32,
-    next: usize,
+// The entry that is named here, and what follows.
+fn read_entry(line: &[u8]) -> Option<(Entry, &[u8])> {
+    ENTRIES.iter().find_map(|(name, entry)| Some((*entry, after(line, name.as_bytes())?)))
 }
 
-fn read_entry(line: &[u8], from: usize) -> NamedEntry
-    requires { from ≤ length line.now }
-    ensures { result.1 ≤ length line.now }
+// The question, and what follows.
+fn read_question(line: &[u8]) -> Option<(Question, &[u8])> {
+    let (entry, line) = read_entry(line)?;
+    let (cursor, line) = setting(skip(line), b"cursor", ANY, 0)?;
+    let (count, line) = setting(line, b"count", ANY, 0)?;
+    let (start, line) = setting(line, b"start", ANY, 0)?;
+    let (flags, line) = setting(line, b"flags", ANY, 0)?;
+    let (kind, line) = setting(line, b"kind", BYTE, u32::from(BaseToken::Word8))?;
+    let question = Question {
+        entry,
+        cursor,
+        count,
+        start,
+        flags,
+        kind: kind as u8,
+    };
+    Some((question, line))
+}
+
+// The lengths, of a row with so many tokens, and what follows.
+fn read_sizes(line: &[u8], tokens: u32) -> Option<(Sizes, &[u8])>
+    requires { tokens ≤ QuestionLimits.tokens }
+    ensures { IfSome result (λ read. SizesFit read.0) }
 {
-    let expression = lines::named(line, from, b"expression");
-    if from < expression {
-        return NamedEntry(Entry::Expression, expression);
-    }
-    let value_type = lines::named(line, from, b"type");
-    if from < value_type {
-        return NamedEntry(Entry::Type, value_type);
-    }
-    let constant = lines::named(line, from, b"constant");
-    if from < constant {
-        return NamedEntry(Entry::Constant, constant);
-    }
-    let structure = lines::named(line, from, b"struct");
-    if from < structure {
-        return NamedEntry(Entry::Struct, structure);
-    }
-    let word = lines::named(line, from, b"word");
-    NamedEntry(Entry::Word, word)
+    let (slots, line) = setting(line, b"slots", MOST_SLOTS, USUAL_SLOTS)?;
+    let (loads, line) = setting(line, b"loads", MOST_SLOTS, slots)?;
+    let (types, line) = setting(line, b"types", MOST_TOKENS, tokens)?;
+    let sizes = Sizes {
+        types: types as usize,
+        slots: slots as usize,
+        loads: loads as usize,
+    };
+    Some((sizes, line))
 }
 
-fn read_question(line: &[u8], from: usize) -> AskedQuestion
-    requires { from ≤ length line.now }
-    ensures { result.next ≤ length line.now }
+// The row that a line says; its tokens are put in place of those that are there.
+pub fn read_row<'a>(line: &'a [u8], tokens: &mut Tokens) -> Option<Row<'a>>
+    ensures { IfSome result (λ row. Fits line.now row) }
 {
-    let entry = read_entry(line, from);
-    let after_entry = entry.1;
-    let settings = lines::skip(line, after_entry);
-    let cursor = row_text::setting(line, settings, b"cursor", ANY, 0);
-    let after_cursor = cursor.next;
-    let count = row_text::setting(line, after_cursor, b"count", ANY, 0);
-    let after_count = count.next;
-    let start = row_text::setting(line, after_count, b"start", ANY, 0);
-    let after_start = start.next;
-    let flags = row_text::setting(line, after_start, b"flags", ANY, 0);
-    let after_flags = flags.next;
-    let kind = row_text::setting(line, after_flags, b"kind", BYTE, BaseToken::Word8 as u32);
-    AskedQuestion {
-        good: from < after_entry
-            && cursor.found
-            && count.found
-            && start.found
-            && flags.found
-            && kind.found,
-        question: Question {
-            entry: entry.0,
-            cursor: cursor.value,
-            count: count.value,
-            start: start.value,
-            flags: flags.value,
-            kind: kind.value as u8,
-        },
-        next: kind.next,
-    }
-}
-
-// The lengths, of a row with so many tokens.
-fn read_sizes(line: &[u8], from: usize, tokens: u32) -> Sizes
-    requires { (from ≤ length line.now) × (tokens ≤ QuestionLimits.tokens) }
-    ensures { SizesFit result }
-{
-    let slots = row_text::setting(line, from, b"slots", MOST_SLOTS, USUAL_SLOTS);
-    let after_slots = slots.next;
-    let loads = row_text::setting(line, after_slots, b"loads", MOST_SLOTS, slots.value);
-    let after_loads = loads.next;
-    let types = row_text::setting(line, after_loads, b"types", MOST_TOKENS, tokens);
-    Sizes {
-        good: slots.found && loads.found && types.found,
-        slots: slots.value,
-        loads: loads.value,
-        types: types.value,
-        next: types.next,
-    }
-}
-
-// Where the text of a line ends: before the first `#`, and the spaces before that.
-fn text_end(line: &[u8]) -> usize
-    ensures { result ≤ length line.now }
-{
-    let hash = lines::find(line, 0, b'#');
-    lines::trim(line, hash)
-}
-
-// The row that a line says; its tokens are put into the columns.
-pub fn read_row(line: &[u8], kinds: &mut [u8; TOKENS], types: &mut [u8; TOKENS]) -> Row
-    ensures { Fits line.now result }
-{
-    let end = lines::find(line, 0, b'#');
-    let hash = lines::after(line, end, b'#');
-    let colon = lines::find(line, hash, b':');
-    let inside = lines::after(line, colon, b':');
-    let tokens = row_text::read_tokens(line, inside, kinds, types);
-    let start = lines::skip(line, hash);
-    let asked = read_question(line, start);
-    let after_question = asked.next;
-    let sizes = read_sizes(line, after_question, tokens.count as u32);
-    let question = asked.question;
-    Row {
-        good: asked.good && sizes.good && tokens.good && sizes.next == colon && colon < inside,
-        text: text_end(line),
+    let (text, asked) = split_once(line, b'#')?;
+    let (asked, words) = split_once(asked, b':')?;
+    row_text::read_tokens(words, tokens)?;
+    let (question, rest) = read_question(skip(asked))?;
+    let (sizes, rest) = read_sizes(rest, tokens.len() as u32)?;
+    let row = Row {
+        text: trim(text),
         question,
-        tokens: tokens.count,
-        types: sizes.types as usize,
-        slots: sizes.slots as usize,
-        loads: sizes.loads as usize,
-    }
+        sizes,
+    };
+    rest.is_empty().then_some(row)
 }

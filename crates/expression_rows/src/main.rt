@@ -5,13 +5,14 @@
 ghost use Rattle.std.specs.Prelude.{◌≤◌};
 ghost use Rattle.row_text.specs.LineLimits as LineLimits;
 
-use codes::{Limit, TokenId};
-use row_text::TOKENS;
+use codes::{Limit, TokenId, node_count};
+use row_text::Tokens;
+use show::{Reply, Shown};
+use std::io::{Result, Write};
+use tokens::Row;
 
-// The file numbers of standard input and output.
+// The file number of standard input. Crate io reads into a buffer, where std's read_to_end needs a heap.
 const STDIN: i32 = 0;
-
-const STDOUT: i32 = 1;
 
 // The slots, of which a row says how many are lent.
 const SLOTS: usize = 512;
@@ -19,73 +20,47 @@ const SLOTS: usize = 512;
 // What a slot holds before a node is appended there; no node has this kind.
 const UNUSED: u32 = 255;
 
-// The reply to a row: the first tokens of the two columns.
-fn show(
-    text: &[u8],
-    all_kinds: &[u8; TOKENS],
-    all_types: &[u8; TOKENS],
-    tokens: usize,
-    slots: usize,
-)
-    requires { (tokens ≤ LineLimits.tokens) × (slots ≤ LineLimits.slots) }
+// The reply to a row.
+fn show(out: &mut impl Write, text: &[u8], tokens: &Tokens, slots: usize) -> Result<()>
+    requires { (tokens.now.count ≤ LineLimits.tokens) × (slots ≤ LineLimits.slots) }
 {
-    let kinds: &[u8] = all_kinds;
-    let types: &[u8] = all_types;
+    let row = Row {
+        kinds: tokens.kinds(),
+        types: tokens.types(),
+    };
     let mut all_words = [UNUSED; SLOTS];
     let node_words = &mut all_words[..slots];
-    let reply = expressions::parse_expression(
-        &kinds[..tokens],
-        &types[..tokens],
-        node_words,
-        TokenId(0),
-        0,
-        Limit::Nesting,
-    );
-    io::write_all(STDOUT, text);
-    io::write_all(STDOUT, b": ");
-    let count = show::print_reply(reply);
-    show::print_words(node_words, count as usize);
+    let reply = expressions::parse_expression(&row, node_words, TokenId(0), 0, Limit::Nesting);
+    let shown = Shown {
+        nodes: &*node_words,
+        count: node_count(reply) as usize,
+    };
+    out.write_all(text)?;
+    writeln!(out, ": {}{shown}", Reply(reply))
 }
 
-// The reply to the row that a line says.
-fn show_row(line: &[u8]) {
-    let mut kinds = [0u8; TOKENS];
-    let mut types = [0u8; TOKENS];
-    let row = row_text::read_row(line, &mut kinds, &mut types);
-    if !row.good {
-        io::write_all(STDOUT, b"bad line\n");
-        return;
+fn show_line(out: &mut impl Write, line: &[u8], tokens: &mut Tokens) -> Result<()> {
+    if !lines::is_row(line) {
+        out.write_all(line)?;
+        return out.write_all(b"\n");
     }
-    let text = row.text;
-    let tokens = row.tokens;
-    let slots = row.slots;
-    show(&line[..text], &kinds, &types, tokens, slots);
-}
-
-fn show_line(line: &[u8]) {
-    if lines::is_row(line) {
-        show_row(line);
-        return;
-    }
-    io::write_all(STDOUT, line);
-    io::write_all(STDOUT, b"\n");
-}
-
-fn show_lines(input: &[u8]) {
-    let mut from: usize = 0;
-    while from < input.len() {
-        let end = lines::find(input, from, b'\n');
-        show_line(&input[from..end]);
-        from = end + 1;
+    match row_text::read_row(line, tokens) {
+        Some(row) => show(out, row.text, tokens, row.slots),
+        None => out.write_all(b"bad line\n"),
     }
 }
 
-fn main() {
+fn main(rt: HostRuntime) -> Result<()> {
+    let mut out = rt.stdout();
     let mut input = io::large_buffer();
     let length = io::read_full(STDIN, &mut input);
     if length == input.len() {
-        io::write_all(STDOUT, b"bad file\n");
-        return;
+        return out.write_all(b"bad file\n");
     }
-    show_lines(&input[..length]);
+    let mut tokens = Tokens::new();
+    for line in input[..length].split_inclusive(|byte| *byte == b'\n') {
+        let line = line.strip_suffix(b"\n").unwrap_or(line);
+        show_line(&mut out, line, &mut tokens)?;
+    }
+    Ok(())
 }

@@ -7,9 +7,11 @@ use Prim.Native.Nat.{ℕ, ◌+◌, ◌-◌, ◌≤◌, ◌<◌}
 use native.Mathlib.Omega.{arith}
 use lib.ListN.{length}
 use lib.Dec.{eqb}
-use Rattle.codes.specs.declared.Parsed.{Parsed}
-use Rattle.codes.specs.declared.TokenId.{TokenId}
-use Rattle.codes.specs.Answer.{row}
+use Rattle.std.specs.Prelude.{Ok, Err}
+use Rattle.codes.specs.declared.ParsingError.{ParsingError}
+use Rattle.codes.specs.declared.NodeId.{NodeId}
+use Rattle.codes.specs.declared.Read.{Read}
+use Rattle.codes.specs.Answer.{ParseResult, row, state}
 use Rattle.codes.specs.Words.{As, Gives, Sized, nodes}
 use Rattle.codes.proofs.Onto.{Onto, stays, split, moved}
 use Rattle.codes.proofs.Loops.{Going, sets-out, goes-round, held_in, same-held, turn-refused, turn_last, turn-again}
@@ -18,12 +20,11 @@ use Rattle.nodes.specs.declared.ActiveList.{ActiveList}
 use Rattle.nodes.specs.Answer.{WithinSlots, ends, active, past}
 use Rattle.nodes.proofs.Laws.{active-ends, past-none}
 use Rattle.nodes.proofs.Bounds.{slots}
-use Rattle.lists.specs.declared.Owner.{Owner as Code}
-use Rattle.lists.specs.declared.Owner.TheVariants.{Call, Elements}
+use Rattle.lists.specs.declared.CountedList.{CountedList}
 use Rattle.lists.specs.declared.Turn.{Turn}
-use Rattle.lists.specs.declared.Turn.TheVariants.{More, Last, Refused as Stopped}
-use Rattle.lists.specs.Answer.{Counted, owner_of, turned}
-use Rattle.lists.proofs.Laws.{holding-turned}
+use Rattle.lists.specs.declared.Turn.TheVariants.{More, Last}
+use Rattle.lists.specs.Answer.{Counted, counted, turned}
+use Rattle.lists.proofs.Laws.{counted-back, plain-turned}
 use Rattle.lists.proofs.Bounds.{Fits, item-turn}
 use Rattle.openings.specs.Answer.{listed}
 use Rattle.expressions.specs.Answer.{within, list_items}
@@ -92,25 +93,20 @@ item-fits at u closing l {c} {s} {b} {c'} {s'} e room h f =
         item-turn at closing l _ w.two (omega (arith, g.grew))
 
 -- a turn of the code is that of the rules
-more_same :
-    {r : Turn} {m : ActiveList} {i : ℕ} {p : TokenId} {j : ℕ} → r ≡ More m i p j → r ≡ More (active (ends m)) i p j
-more_same {m = m} {i = i} {p = p} {j = j} q = q ∙ ap (λ (x : ActiveList). More x i p j) (sym (active-ends m))
+module _ {z : ParseResult (Read Turn)} {v : Read Turn} (w : z ≡ Ok v) {m : CountedList} where
+  more_same : v.value ≡ More m → z ≡ Ok (turned (again (counted m)) (state v.cursor v.count))
+  more_same e =
+      w ∙ ap (λ (t : Turn). Ok (record { value = t; cursor = v.cursor; count = v.count })) (e ∙ ap More (sym (counted-back m)))
 
-last-same :
-    {r : Turn} {m : ActiveList} {i : ℕ} {p : TokenId} {j : ℕ} → r ≡ Last m i p j → r ≡ Last (active (ends m)) i p j
-last-same {m = m} {i = i} {p = p} {j = j} q = q ∙ ap (λ (x : ActiveList). Last x i p j) (sym (active-ends m))
+  last-same : v.value ≡ Last m → z ≡ Ok (turned (done (counted m)) (state v.cursor v.count))
+  last-same e =
+      w ∙ ap (λ (t : Turn). Ok (record { value = t; cursor = v.cursor; count = v.count })) (e ∙ ap Last (sym (counted-back m)))
 
 -- the closing tokens are no EndOfSource, and have refusals of their own
 closings : (owner : Owner) → Nonzero (refusal_of (closing_of owner)) × Nonzero (closing_of owner)
 closings (call name builtin) = (refl, refl)
 closings (structural name) = (refl, refl)
 closings elements = (refl, refl)
-
--- no list of expressions ends in a brace
-pub not-brace :
-    (owner : Code) {closing : ℕ} → closing ≡ closing_of (owner_of owner) → eqb closing BaseToken.BraceRight ≡ false
-not-brace (Call name builtin) e = rw e refl
-not-brace Elements e = rw e refl
 
 -- the items by what the list belongs to
 one-item :
@@ -122,16 +118,17 @@ one-item at u (structural name) = refl
 one-item at u elements = refl
 
 -- Between two items of a list: what is left of it.
-abbrev pub Items : List ℕ → List ℕ → ℕ → Owner → ℕ → ℕ → Words → ActiveList → ℕ → ℕ → Words → Type 0
-Items tk tv u owner closing c₀ s₀ l i c s =
+abbrev pub Items : List ℕ → List ℕ → ℕ → Owner → ℕ → ℕ → Words → CountedList → ℕ → Words → Type 0
+Items tk tv u owner closing c₀ s₀ l c s =
     (closing ≡ closing_of owner) ×
     Going (within (listed owner) u (row tk tv)) c₀ s₀
     (λ n m. repeat (λ m. list_items closing m u (row tk tv)) (refuse Refusal.OutOfRounds 0 0) n m >>= λ m.
-    list_end words owner m) (length tk) (ends l, i) c s
+    list_end words owner m) (length tk) (counted l) c s
 
 pub first-item :
     (tk tv : List ℕ) (u : ℕ) (owner : Owner) (closing c : ℕ) (s : Words) → closing ≡ closing_of owner →
-    (l : ActiveList) → ends l ≡ none → Items tk tv u owner closing c s l 0 c s
+    (l : ActiveList) → ends l ≡ none →
+    Items tk tv u owner closing c s (record { list = l; items = 0 }) c s
 unfolding within listed comma_list loop list_items
 first-item tk tv u owner closing c s e l q =
     (e, sets-out _ (record { same = rw (one-item (row tk tv) u owner, e, q) refl }))
@@ -139,57 +136,69 @@ first-item tk tv u owner closing c s e l q =
 pub none-fits : (l : ActiveList) → ends l ≡ none → (k : ℕ) → past l ≤ k
 none-fits l q k = let e = past-none l q in omega arith
 
-module _ (tk tv : List ℕ) (u : ℕ) (owner : Owner) (closing c₀ : ℕ) {s₀ : Words} (l : ActiveList) (i c k : ℕ)
-    {ks : List ℕ} (h : Items tk tv u owner closing c₀ s₀ l i c (nodes ks k)) {z : Turn} {ks₁ : List ℕ}
-    (g : As turned (list_items closing (ends l, i) u (row tk tv)) c (nodes ks k) z ks₁) where
-  pub list-refused :
-      {r : Parsed} → z ≡ Stopped r → Gives (within (listed owner) u (row tk tv)) c₀ s₀ r ks₁
-  list-refused w = turn-refused holding-turned _ _ _ _ _ h.1.onto g w
+module _ (tk tv : List ℕ) (u : ℕ) (owner : Owner) (closing c₀ : ℕ) {s₀ : Words} (l : CountedList) (c k : ℕ)
+    {ks : List ℕ} (h : Items tk tv u owner closing c₀ s₀ l c (nodes ks k)) {z : ParseResult (Read Turn)} {ks₁ : List ℕ}
+    (g : As turned (list_items closing (counted l) u (row tk tv)) c (nodes ks k) z ks₁) where
+  pub list-refused : {e : ParsingError} → z ≡ Err e → Gives (within (listed owner) u (row tk tv)) c₀ s₀ (Err e) ks₁
+  list-refused w = turn-refused _ _ _ _ _ h.1.onto g w
 
-  pub list_read :
-      {m : ActiveList} {n : ℕ} {p : TokenId} {j : ℕ} → z ≡ Last m n p j → {r : Parsed} {ks₂ : List ℕ} →
-      Gives (list_end words owner (ends m, n)) p.0 (nodes ks₁ j) r ks₂ →
-      Gives (within (listed owner) u (row tk tv)) c₀ s₀ r ks₂
-  list_read {m} {n} w d = turn_last holding-turned _ _ _ _ _ h.1.onto g {b = (ends m, n)} (last-same w) d
+  module _ {v : Read Turn} (w : z ≡ Ok v) where
+    pub list_read :
+        {m : CountedList} → v.value ≡ Last m → {r : ParseResult (Read NodeId)} {ks₂ : List ℕ} →
+        Gives (list_end words owner (counted m)) v.cursor.0 (nodes ks₁ v.count) r ks₂ →
+        Gives (within (listed owner) u (row tk tv)) c₀ s₀ r ks₂
+    list_read {m} e d = turn_last _ _ _ _ _ h.1.onto g plain-turned {b = counted m} (last-same w e) d
 
-  module _ (y : Sized tk tv ks c k) (f : past l ≤ k) (f' : i ≤ k) where
-    turn-after :
-        (b : Step Counted Counted) {p j : ℕ} → z ≡ turned.read b p j →
-        Sized tk tv ks₁ p j × Round 0 c b p × Fits (held_in b) (nodes ks₁ j)
-    unfolding list_items
-    turn-after b q =
-        let (n, n') = closings owner in
-        round-over y holding-turned.plain
-        (list-item (below (row tk tv)) (omega arith) (item-moves (row tk tv) u closing) closing
-        (rw h.0 n) (rw h.0 n') (ends l, i) c) Fits
-        (λ b p s e _. item-fits (row tk tv) u closing (ends l, i) e y.used y.at (rw (active-ends l) f, f')) g b q
+    module _ (y : Sized tk tv ks c k) (f : past l.list ≤ k) (f' : l.items ≤ k) where
+      turn-after :
+          (b : Step Counted Counted) → z ≡ Ok (turned b (state v.cursor v.count)) →
+          Sized tk tv ks₁ v.cursor.0 v.count × Round 0 c b v.cursor.0 ×
+          Fits (held_in b) (nodes ks₁ v.count)
+      unfolding list_items
+      turn-after b q =
+          let (n, n') = closings owner in
+          round-over y plain-turned
+          (list-item (below (row tk tv)) (omega arith) (item-moves (row tk tv) u closing) closing
+          (rw h.0 n) (rw h.0 n') (counted l) c) Fits
+          (λ b p s e _. item-fits (row tk tv) u closing (counted l) e y.used y.at (rw (active-ends l.list) f, f')) g b q
 
-    module _ {m : ActiveList} {n : ℕ} {p : TokenId} {j : ℕ} where
-      pub turn-sized : z ≡ More m n p j → Sized tk tv ks₁ p.0 j
-      turn-sized w = (turn-after (again (ends m, n)) (more_same w)).0
+      module _ {m : CountedList} (e : v.value ≡ More m) where
+        turn-more :
+            Sized tk tv ks₁ v.cursor.0 v.count × (c < v.cursor.0) ×
+            Fits (counted m) (nodes ks₁ v.count)
+        turn-more = turn-after (again (counted m)) (more_same w e)
 
-      pub turn-fits : z ≡ More m n p j → past m ≤ j
-      turn-fits w = let e = (turn-after (again (ends m, n)) (more_same w)).2.0 in rw (active-ends m) at e
+        pub turn-sized : Sized tk tv ks₁ v.cursor.0 v.count
+        turn-sized = turn-more.0
 
-      pub turn-counts : z ≡ More m n p j → n ≤ j
-      turn-counts w = (turn-after (again (ends m, n)) (more_same w)).2.1
+        pub turn-fits : past m.list ≤ v.count
+        turn-fits = let x = turn-more.2.0 in rw (active-ends m.list) at x
 
-      pub turn-less : z ≡ More m n p j → length tk - p.0 < length tk - c
-      turn-less w = let (a, b, e) = turn-after (again (ends m, n)) (more_same w) in omega (arith, a.at)
+        pub turn-counts : m.items ≤ v.count
+        turn-counts = turn-more.2.1
 
-      pub next-item : z ≡ More m n p j → Items tk tv u owner closing c₀ s₀ m n p.0 (nodes ks₁ j)
-      next-item w =
-          let (a, b, e) = turn-after (again (ends m, n)) (more_same w) in (
-            h.0,
-            goes-round _ h.1 (λ x. turn-again holding-turned _ _ _ _ _ stays g {b = (ends m, n)} (more_same w)) b a.at,
-          )
+        pub turn-less : length tk - v.cursor.0 < length tk - c
+        turn-less = let (a, b, x) = turn-more in omega (arith, a.at)
 
-      pub list-slots : z ≡ Last m n p j → WithinSlots ks₁ j
-      list-slots w = slots (turn-after (done (ends m, n)) (last-same w)).0
+        pub next-item : Items tk tv u owner closing c₀ s₀ m v.cursor.0 (nodes ks₁ v.count)
+        next-item =
+            let (a, b, x) = turn-more in (
+              h.0,
+              goes-round _ h.1
+                  (λ n. turn-again _ _ _ _ _ stays g plain-turned {b = counted m} (more_same w e)) b a.at,
+            )
 
-      pub list-fits : z ≡ Last m n p j → past m ≤ j
-      list-fits w = let e = (turn-after (done (ends m, n)) (last-same w)).2.0 in rw (active-ends m) at e
+      module _ {m : CountedList} (e : v.value ≡ Last m) where
+        turn-whole :
+            Sized tk tv ks₁ v.cursor.0 v.count × Round {A = Counted} {B = Counted} 0 c (done (counted m)) v.cursor.0 ×
+            Fits (counted m) (nodes ks₁ v.count)
+        turn-whole = turn-after (done (counted m)) (last-same w e)
 
-      pub list-load : z ≡ Last m n p j → n ≤ Limit.Load
-      list-load w =
-          let (a, _, e) = turn-after (done (ends m, n)) (last-same w) in omega (arith, a.used, a.slots, e.1)
+        pub list-slots : WithinSlots ks₁ v.count
+        list-slots = slots turn-whole.0
+
+        pub list-fits : past m.list ≤ v.count
+        list-fits = let x = turn-whole.2.0 in rw (active-ends m.list) at x
+
+        pub list-load : m.items ≤ Limit.Load
+        list-load = let (a, _, x) = turn-whole in omega (arith, a.used, a.slots, x.1)

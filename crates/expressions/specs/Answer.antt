@@ -22,8 +22,8 @@ prefix_end token c =
 
 -- what follows the operand e of a unary, by its first token, which is at
 unfoldable pub unary_end : ℕ → ℕ → ℕ → Row → Rule Words ℕ
-unary_end token at e row =
-    choose token
+unary_end t at e row =
+    choose t
     (BaseToken.Pipe ⇒ closed words row BaseToken.Pipe ParseNode.LengthOf e
     ∷ BaseToken.Exclamation ⇒ prefix words at UnaryOp.BitwiseComplement e
     ∷ BaseToken.Minus ⇒ prefix words at UnaryOp.Negative e

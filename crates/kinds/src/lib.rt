@@ -96,7 +96,8 @@ fn join_words(kinds: &[u8; TOKENS], limit: u8, tops: &mut [u64; WORDS], sums: &m
     }
 }
 
-// Thirty-two value types more. Each has a lane, which holds the largest of those of the turns so far.
+// Thirty-two value types more. Each has a lane, which holds the largest of those of the turns so far. One function for
+// this and join_words would take from its caller what is done with a lane, which is all that there is in either.
 fn join_types(types: &[u8; TOKENS], most: &mut [u8; TOKENS])
     ensures { Alike most.new (most.old ++ types.now) }
 {

@@ -2,160 +2,158 @@
 use mathlib.Core.Path.{◌≡◌, refl, sym, ◌∙◌, ap, subst}
 use mathlib.Core.List.{List}
 use mathlib.Core.Option.{none}
-use Prim.Native.Nat.{ℕ, zero, suc, ◌+◌, ◌-◌, ◌≤◌}
+use Prim.Native.Nat.{ℕ, suc, ◌+◌, ◌-◌, ◌≤◌, ◌<◌}
 use native.Mathlib.Numerals.{unary_clauses}
 use native.Mathlib.Omega.{arith}
+use Rattle.std.specs.Option.{unwrap_or}
+use Rattle.std.specs.Prelude.{Ok, Err, Some, None}
+use Rattle.std.specs.Prelude.{Option as Optional}
 use Rattle.rules.specs.Codes.ParseNode as ParseNode
-use Rattle.rules.specs.Words.{Words, append, push_list_item, push_end_of_list}
+use Rattle.rules.specs.Words.{append, push_list_item, push_end_of_list}
 use Rattle.codes.specs.declared.NodeId.{NodeId}
+use Rattle.codes.specs.declared.ParsingError.{ParsingError}
+use Rattle.codes.specs.declared.Read.{Read}
 use Rattle.codes.specs.declared.TokenId.{TokenId}
-use Rattle.codes.specs.declared.Parsed.{Parsed}
-use Rattle.codes.specs.declared.Parsed.TheVariants.{Node, Refused}
+use Rattle.codes.specs.Answer.{ParseResult}
 use Rattle.codes.specs.Words.{As, Gives, nodes}
-use Rattle.codes.proofs.Onto.{stays, reads, shows, told, held, hands_on, came-read, plain-parsed}
+use Rattle.codes.proofs.Onto.{Onto, stays, ◌then◌, reads, shows, told, hands_on, came-node}
 use Rattle.nodes.specs.declared.ActiveList.{ActiveList}
-use Rattle.nodes.specs.declared.Listed.{Listed}
-use Rattle.nodes.specs.declared.Listed.TheVariants.{List as Items, Full}
 use Rattle.nodes.specs.Answer.{WithinSlots, ends, listed, past}
-use Rattle.nodes.proofs.Laws.{active-ends, came-listed, holding-listed, past-none}
+use Rattle.nodes.proofs.Laws.{active-ends, came-listed, past-none}
 use Rattle.nodes.proofs.Bounds.{after_push, after-item, item-fits}
+use Rattle.tokens.specs.Answer.{after as after_token}
 use Rattle.buffer.specs.declared.ParseBuffer.{ParseBuffer}
 use Rattle.buffer.specs.Answer.{counted, relisted, Appends, AppendsItem}
-use Rattle.lent_rows.specs.Lists.{item, items, Fits, Item, Records}
+use Rattle.lent_rows.specs.Lists.{item, items, seen, Fits, Item}
 
--- two answers for an item are never both accepted and refused
-full-is-none :
-    {A : Type 0} {f : Parsed} {l : ActiveList} {p : TokenId} {n : ℕ} → Full f ≡ Items l p n → A
-full-is-none e = let z : ◌≡◌ {A = ℕ} 0 1 = cc in absurd (omega arith)
+-- a list with the cursor and the count
+abbrev pub Listed : Type 0
+Listed = Read ActiveList
 
 -- an item by the core: its content was refused, or read
-module _ (token : ℕ) (list : ActiveList) {c count : ℕ} {ws : List ℕ} {r₁ : Parsed} {ws₁ : List ℕ}
-    (g : Gives (append ParseNode.UntypedIntegerLiteral token) c (nodes ws count) r₁ ws₁) where
-  pub content-refused :
-      {x : ℕ} {a e p : TokenId} {j : ℕ} → r₁ ≡ Refused x p j a e → Item token c count list ws (Full r₁) ws₁
+module _ (token : ℕ) (l : Listed) {ws : List ℕ} {r₁ : ParseResult (Read NodeId)} {ws₁ : List ℕ}
+    (g : Gives (append ParseNode.UntypedIntegerLiteral token) l.cursor.0 (nodes ws l.count) r₁ ws₁) where
+  pub content-refused : {e : ParsingError} → r₁ ≡ Err e → Item token l ws (Err e) ws₁
   unfolding item
-  content-refused q = record { answer = hands_on _ stays (told g q); fits = λ e. full-is-none e }
+  content-refused q = record { answer = hands_on _ stays (told g q); fits = λ e. absurd cc }
 
-  module _ {a : NodeId} {p : TokenId} {j : ℕ} (q : r₁ ≡ Node a p j) (z : Fits count list ws) where
-    after : WithinSlots ws₁ j × (count ≤ j) × (p.0 ≡ c)
+  module _ {v : Read NodeId} (q : r₁ ≡ Ok v) (z : Fits l ws) where
+    after : WithinSlots ws₁ v.count × (l.count ≤ v.count) × (v.cursor.0 ≡ l.cursor.0)
     after = after_push ParseNode.UntypedIntegerLiteral token g q z.slots
 
-    pub core-slots : WithinSlots ws₁ j
+    pub core-slots : WithinSlots ws₁ v.count
     core-slots = after.0
 
-    pub core-last : past list ≤ j
+    pub core-last : past l.value ≤ v.count
     core-last = omega (arith, after.1, z.last)
 
-  pub content-read :
-      {a : NodeId} {p : TokenId} {j : ℕ} → r₁ ≡ Node a p j → Fits count list ws → {r : Listed} {ws₂ : List ℕ} →
-      As listed (push_list_item (ends list)) p.0 (nodes ws₁ j) r ws₂ →
-      Item token c count list ws r ws₂
-  unfolding item
-  content-read {j = j} q z h = record {
-    answer = shows (reads _ (came-read plain-parsed g q)) h;
-    fits = λ {l} {p} {n} e. record {
-      slots = (after-item (ends list) h e (core-slots q z)).0;
-      last =
-          let before = subst (λ (m : ActiveList). past m ≤ j) (sym (active-ends list)) (core-last q z) in
-          subst (λ (m : ActiveList). past m ≤ n) (active-ends l) (item-fits (ends list) (came-listed h e) before).0;
-    };
-  }
+    pub content-read :
+        {r : ParseResult Listed} {ws₂ : List ℕ} →
+        As listed (push_list_item (ends l.value)) v.cursor.0 (nodes ws₁ v.count) r ws₂ →
+        Item token l ws r ws₂
+    unfolding item
+    content-read h = record {
+      answer = shows (reads _ (came-node g q)) h;
+      fits = λ {v = w} e. record {
+        slots = (after-item (ends l.value) h e core-slots).0;
+        last =
+            let before =
+            subst (λ (m : ActiveList). past m ≤ v.count) (sym (active-ends l.value)) core-last in
+            subst (λ (m : ActiveList). past m ≤ w.count) (active-ends w.value)
+            (item-fits (ends l.value) (came-listed h e) before).0;
+      };
+    }
 
--- an item by the lent record: the content's answer leaves the record with as many nodes and the same list
-module _ (token : ℕ) {c : ℕ} {b : ParseBuffer} {ws : List ℕ} {r₁ : Parsed} {b₁ : ParseBuffer} {ws₁ : List ℕ}
-    (g : Appends c b ws ParseNode.UntypedIntegerLiteral token r₁ b₁ ws₁) where
-  pub record-refused :
-      {x : ℕ} {a e p : TokenId} {j : ℕ} → r₁ ≡ Refused x p j a e →
-      Item token c b.count b.list ws (Full r₁) ws₁
-  record-refused q = content-refused token b.list g.node q
+-- an item by the lent record: its answer leaves the record with what it read
+module _ (token : ℕ) {c : TokenId} {b : ParseBuffer} {ws : List ℕ} {r₁ : ParseResult (Read NodeId)} {b₁ : ParseBuffer}
+    {ws₁ : List ℕ} (g : Appends c.0 b ws ParseNode.UntypedIntegerLiteral token r₁ b₁ ws₁) where
+  abbrev l : Listed
+  l = record { cursor = c; count = b.count; value = b.list }
 
-  module _ {a : NodeId} {p : TokenId} {j : ℕ} (q : r₁ ≡ Node a p j) (z : Fits b.count b.list ws) where
-    counts : b₁ ≡ record { count = j; list = b.list }
+  pub record-refused : {e : ParsingError} → r₁ ≡ Err e → Item token l ws (Err e) ws₁
+  record-refused q = content-refused token l g.node q
+
+  module _ {v : Read NodeId} (q : r₁ ≡ Ok v) (z : Fits l ws) where
+    counts : b₁ ≡ record { count = v.count; list = b.list }
     counts = g.buffer ∙ ap (counted b) q
 
-    pub record-slots : WithinSlots ws₁ b₁.count
-    record-slots =
-        subst (λ (x : ParseBuffer). WithinSlots ws₁ x.count) (sym counts) (core-slots token b.list g.node q z)
+    pub record-fits : WithinSlots ws₁ b₁.count × (past b₁.list ≤ b₁.count)
+    record-fits =
+        subst (λ (x : ParseBuffer). WithinSlots ws₁ x.count × (past x.list ≤ x.count)) (sym counts)
+        (core-slots token l g.node q z, core-last token l g.node q z)
 
-    pub record-last : past b₁.list ≤ b₁.count
-    record-last =
-        subst (λ (x : ParseBuffer). past x.list ≤ x.count) (sym counts) (core-last token b.list g.node q z)
+    module _ {r : ParseResult Listed} {b₂ : ParseBuffer} {ws₂ : List ℕ} (h : AppendsItem v.cursor.0 b₁ ws₁ r b₂
+        ws₂)
+      where
+        pub record-read : Item token l ws r ws₂
+        record-read =
+            content-read token l g.node q z
+            (subst (λ (y : ParseBuffer). As listed (push_list_item (ends y.list)) v.cursor.0
+            (nodes ws₁ y.count) r ws₂)
+            counts h.item)
 
-    pub record-read :
-        {r : Listed} {b₂ : ParseBuffer} {ws₂ : List ℕ} → AppendsItem p.0 b₁ ws₁ r b₂ ws₂ →
-        Item token c b.count b.list ws r ws₂
-    record-read {r} {ws₂ = ws₂} h =
-        content-read token b.list g.node q z
-        (subst (λ (y : ParseBuffer). As listed (push_list_item (ends y.list)) p.0 (nodes ws₁ y.count) r ws₂)
-        counts h.item)
+        -- the record then, as such a list
+        pub record-kept :
+            {w : Listed} → r ≡ Ok w → Item token l ws (Ok (record {
+              cursor = w.cursor;
+              count = b₂.count;
+              value = b₂.list;
+            })) ws₂
+        record-kept {w} e =
+            let same : b₂ ≡ record { count = w.count; list = w.value } = h.buffer ∙ ap (relisted b₁) e in
+            rw same (rw e at record-read)
 
--- the record after an item
-pub records :
-    {c : ℕ} {b : ParseBuffer} {ws : List ℕ} {r : Listed} {b' : ParseBuffer} {ws' : List ℕ} →
-    AppendsItem c b ws r b' ws' → Records r b'
-records {b = b} h = record { after = λ e. h.buffer ∙ ap (relisted b) e }
+-- an answer of the core is seen as it is
+pub seen-same : (r : ParseResult Listed) → seen (λ l. l) r ≡ r
+seen-same (Ok l) = refl
+seen-same (Err e) = refl
 
-pub no_record : (f : Parsed) (b : ParseBuffer) → Records (Full f) b
-no_record f b = record { after = λ e. full-is-none e }
+-- The items of the list l₀ from a token on go on as those of the list l from token k up to e.
+pub record Going (left token : ℕ) (l₀ : Listed) (ws₀ : List ℕ) (e k : ℕ) (l : Listed) (ws : List ℕ) : Type 0 where
+  pub onto :
+      Onto (items left token (ends l₀.value)) l₀.cursor.0 (nodes ws₀ l₀.count)
+      (items (e - k) k (ends l.value)) l.cursor.0 (nodes ws l.count)
+  pub fits : Fits l ws
 
--- a number that is not 0 follows another
-follows : (n : ℕ) → (n ≡ 0 → ⊥) → n ≡ suc (n - 1)
-follows zero h = absurd (h refl)
-follows (suc n) h = simp unary_clauses refl
+pub begins : (left token : ℕ) (l : Listed) {ws : List ℕ} → Fits l ws → Going left token l ws (token + left) token l ws
+begins left token l {ws} z =
+    let e : left ≡ token + left - token = omega arith in
+    record {
+      onto = subst (λ (n : ℕ). Onto (items left token (ends l.value)) l.cursor.0 (nodes ws l.count)
+          (items n token (ends l.value)) l.cursor.0 (nodes ws l.count)) e stays;
+      fits = z;
+    }
 
--- the items of a list: none is left, or one is refused, or it is read and the others follow
-module _ (left token : ℕ) (list : ActiveList) {c : ℕ} {r : Parsed} where
-  pub none_left :
-      left ≡ 0 → {s : Words} {ws' : List ℕ} → Gives (push_end_of_list (ends list)) c s r ws' →
-      Gives (items left token (ends list)) c s r ws'
-  unfolding items
-  none_left e g = rw e g
+module _ {left token : ℕ} {l₀ : Listed} {ws₀ : List ℕ} {e k : ℕ} {l : Listed} {ws : List ℕ}
+    (g : Going left token l₀ ws₀ e k l ws) where
+  -- one more
+  one_more : k < e →
+      Onto (items left token (ends l₀.value)) l₀.cursor.0 (nodes ws₀ l₀.count)
+      (items (suc (e - (k + 1))) k (ends l.value)) l.cursor.0 (nodes ws l.count)
+  one_more h = let q : e - k ≡ suc (e - (k + 1)) = simp unary_clauses (omega arith) in rw q at g.onto
 
-  module _ {count : ℕ} {ws : List ℕ} (some : left ≡ 0 → ⊥) {o : Listed} {ws₁ : List ℕ}
-      (i : Item token c count list ws o ws₁) where
-    pub one-refused : o ≡ Full r → Gives (items left token (ends list)) c (nodes ws count) r ws₁
+  module _ (h : k < e) {r : ParseResult Listed} {ws' : List ℕ} (i : Item k l ws r ws') where
+    pub goes_on : {l' : Listed} → r ≡ Ok l' → Going left token l₀ ws₀ e (k + 1) l' ws'
     unfolding items
-    one-refused q =
-        subst (λ (m : ℕ). Gives (items m token (ends list)) c (nodes ws count) r ws₁) (sym (follows left some))
-        (hands_on _ stays (held holding-listed i.answer q))
+    goes_on q = record { onto = one_more h then reads _ (came-listed i.answer q); fits = i.fits q }
 
-    module _ {l : ActiveList} {p : TokenId} {n : ℕ} (q : o ≡ Items l p n) {ws' : List ℕ} where
-      pub more_left :
-          Gives (items (left - 1) (token + 1) (ends l)) p.0 (nodes ws₁ n) r ws' →
-          Gives (items left token (ends list)) c (nodes ws count) r ws'
-      unfolding items
-      more_left d =
-          subst (λ (m : ℕ). Gives (items m token (ends list)) c (nodes ws count) r ws') (sym (follows left some))
-          (shows (reads _ (came-listed i.answer q)) d)
+    pub breaks_off : {d : ParsingError} → r ≡ Err d →
+        Gives (items left token (ends l₀.value)) l₀.cursor.0 (nodes ws₀ l₀.count) (Err d) ws'
+    unfolding items
+    breaks_off q = shows (one_more h) (hands_on _ stays (told i.answer q))
 
-      pub more-recorded :
-          {b : ParseBuffer} → Records o b →
-          Gives (items (left - 1) (token + 1) (ends b.list)) p.0 (nodes ws₁ b.count) r ws' →
-          Gives (items left token (ends list)) c (nodes ws count) r ws'
-      more-recorded w d =
-          more_left
-          (subst (λ (x : ParseBuffer).
-          Gives (items (left - 1) (token + 1) (ends x.list)) p.0 (nodes ws₁ x.count) r ws')
-          (w.after q) d)
-
--- another item fits
-pub more-fits :
-    {token c count : ℕ} {list : ActiveList} {ws : List ℕ} {o : Listed} {ws₁ : List ℕ} →
-    Item token c count list ws o ws₁ → {b : ParseBuffer} → Records o b → {l : ActiveList} {p : TokenId} {n : ℕ} →
-    o ≡ Items l p n → Fits b.count b.list ws₁
-more-fits {ws₁ = ws₁} i w q =
-    subst (λ (x : ParseBuffer). Fits x.count x.list ws₁) (sym (w.after q)) (i.fits q)
-
-pub more-fits-core :
-    {token c count : ℕ} {list : ActiveList} {ws : List ℕ} {o : Listed} {ws₁ : List ℕ} →
-    Item token c count list ws o ws₁ → {l : ActiveList} {p : TokenId} {n : ℕ} → o ≡ Items l p n → Fits n l ws₁
-more-fits-core i q = i.fits q
+  pub comes_to_end : e ≤ k → {r : ParseResult (Read NodeId)} {ws' : List ℕ} →
+      Gives (push_end_of_list (ends l.value)) l.cursor.0 (nodes ws l.count) r ws' →
+      Gives (items left token (ends l₀.value)) l₀.cursor.0 (nodes ws₀ l₀.count) r ws'
+  unfolding items
+  comes_to_end h d = let q : e - k ≡ 0 = omega arith in shows (rw q at g.onto) d
 
 -- a list that has no item yet
-pub none-fits : {l : ActiveList} {ws : List ℕ} → WithinSlots ws 0 → ends l ≡ none → Fits 0 l ws
+pub none-fits : {l : ActiveList} {ws : List ℕ} {c : TokenId} → WithinSlots ws 0 → ends l ≡ none →
+    Fits (record { cursor = c; count = 0; value = l }) ws
 none-fits {l} z e = record { slots = z; last = rw (past-none l e) (omega arith) }
 
-pub from-none :
-    (n token : ℕ) (l : ActiveList) {c : ℕ} {s : Words} {r : Parsed} {ws : List ℕ} → ends l ≡ none →
-    Gives (items n token (ends l)) c s r ws → Gives (items n token none) c s r ws
-from-none n token l e g = rw e at g
+-- the cursor after a token that may stand there, as the code has it
+pub next_is : (o : Optional TokenId) (c : TokenId) → (unwrap_or o c).0 ≡ after_token c.0 o
+next_is None c = refl
+next_is (Some p) c = refl

@@ -1,20 +1,28 @@
 -- The answers as numbers: a refusal's five; of an acceptance number 0, its root or kind, the cursor and the node count.
-use Rattle.codes.specs.declared.Parsed.{Parsed}
-use Rattle.codes.specs.declared.Parsed.TheVariants.{Node, Refused}
-use Rattle.tokens.specs.declared.Consumed.{Consumed}
-use Rattle.tokens.specs.declared.Consumed.TheVariants.{Next, Wrong}
+use Rattle.std.specs.Prelude.{ℕ, Ok, Err}
+use Rattle.codes.specs.declared.NodeId.{NodeId}
+use Rattle.codes.specs.declared.ParsingError.{ParsingError}
+use Rattle.codes.specs.declared.Read.{Read}
+use Rattle.codes.specs.declared.TokenId.{TokenId}
+use Rattle.codes.specs.Answer.{ParseResult}
 use Rattle.tokens.specs.declared.Taken.{Taken}
 use Rattle.lent_rows.specs.declared.answers.Numbers.{Numbers}
 
+abbrev pub accepted : ℕ → TokenId → ℕ → Numbers
+accepted root cursor count = record { number = 0; start = root; end = root; cursor = cursor.0; count = count }
+
+abbrev pub of_refusal : ParsingError → Numbers
+of_refusal e =
+    record { number = e.number; start = e.start.0; end = e.end.0; cursor = e.cursor.0; count = e.count }
+
 abbrev pub of_taken : Taken → Numbers
-of_taken t = record { number = 0; start = t.kind; end = t.kind; cursor = t.cursor.0; count = 0 }
+of_taken t = accepted t.kind t.cursor 0
 
-abbrev pub of_parsed : Parsed → Numbers
-of_parsed (Node root cursor count) =
-    record { number = 0; start = root.0; end = root.0; cursor = cursor.0; count = count }
-of_parsed (Refused number cursor count start end) =
-    record { number = number; start = start.0; end = end.0; cursor = cursor.0; count = count }
+abbrev pub of_parsed : ParseResult (Read NodeId) → Numbers
+of_parsed (Ok v) = accepted v.value.0 v.cursor v.count
+of_parsed (Err e) = of_refusal e
 
-abbrev pub of_consumed : Consumed → Numbers
-of_consumed (Next cursor count) = record { number = 0; start = 0; end = 0; cursor = cursor.0; count = count }
-of_consumed (Wrong refusal) = of_parsed refusal
+-- of a token that was expected, whose acceptance has no root and no count
+abbrev pub of_consumed : ParseResult TokenId → Numbers
+of_consumed (Ok p) = accepted 0 p 0
+of_consumed (Err e) = of_refusal e

@@ -4,13 +4,14 @@ ghost use Rattle.rules.specs.Codes.Limit as Limits;
 ghost use Rattle.codes.specs.Words.{Quiet};
 ghost use Rattle.tokens.specs.Answer.{consumed};
 ghost use Rattle.reader.specs.Answer.{ending};
-ghost use Rattle.lent_rows.specs.Numbers.{of_taken, of_parsed, of_consumed};
+ghost use Rattle.lent_rows.specs.Numbers.{accepted, of_taken, of_refusal, of_parsed, of_consumed};
 
-use codes::{BaseToken, Parsed, TokenId};
-use tokens::{Consumed, Taken};
+use codes::{BaseToken, ParseResult, Parsed, ParsingError, TokenId};
+use std::fmt;
+use tokens::{Row, Taken};
 
 // A refusal's five numbers. An acceptance has number 0 and its root, or a token's kind, as start and end.
-#[derive(Clone, Copy)]
+#[derive(Clone, Copy, PartialEq, Eq)]
 pub struct Numbers {
     pub number: u32,
     pub start: u32,
@@ -19,93 +20,95 @@ pub struct Numbers {
     pub count: u32,
 }
 
-pub fn of_taken(taken: Taken) -> Numbers
-    ensures { result ≡ of_taken taken }
-{
-    let kind = taken.kind as u32;
-    Numbers {
-        number: 0,
-        start: kind,
-        end: kind,
-        cursor: taken.cursor.0,
-        count: 0,
+impl Numbers {
+    // Of an acceptance.
+    fn accepted(root: u32, cursor: TokenId, count: u32) -> Numbers
+        ensures { result ≡ accepted root cursor count }
+    {
+        Numbers {
+            number: 0,
+            start: root,
+            end: root,
+            cursor: cursor.0,
+            count,
+        }
     }
 }
 
-pub fn of_parsed(reply: Parsed) -> Numbers
-    ensures { result ≡ of_parsed reply }
-{
-    match reply {
-        Parsed::Node {
-            root,
-            cursor,
-            count,
-        } => Numbers {
-            number: 0,
-            start: root.0,
-            end: root.0,
-            cursor: cursor.0,
-            count,
-        },
-        Parsed::Refused {
-            number,
-            cursor,
-            count,
-            start,
-            end,
-        } => Numbers {
-            number,
-            start: start.0,
-            end: end.0,
-            cursor: cursor.0,
-            count,
-        },
+impl From<Taken> for Numbers {
+    ghost from_gives = { λ taken numbers. numbers ≡ of_taken taken };
+
+    fn from(taken: Taken) -> Numbers {
+        Numbers::accepted(u32::from(taken.kind), taken.cursor, 0)
     }
 }
 
-pub fn of_consumed(answer: Consumed) -> Numbers
-    ensures { result ≡ of_consumed answer }
-{
-    match answer {
-        Consumed::Next { cursor, count } => Numbers {
-            number: 0,
-            start: 0,
-            end: 0,
-            cursor: cursor.0,
-            count,
-        },
-        Consumed::Wrong { refusal } => of_parsed(refusal),
+impl From<ParsingError> for Numbers {
+    ghost from_gives = { λ error numbers. numbers ≡ of_refusal error };
+
+    fn from(error: ParsingError) -> Numbers {
+        Numbers {
+            number: error.number,
+            start: error.start.0,
+            end: error.end.0,
+            cursor: error.cursor.0,
+            count: error.count,
+        }
+    }
+}
+
+impl From<Parsed> for Numbers {
+    ghost from_gives = { λ reply numbers. numbers ≡ of_parsed reply };
+
+    fn from(reply: Parsed) -> Numbers {
+        match reply {
+            Ok(read) => Numbers::accepted(read.value.0, read.cursor, read.count),
+            Err(error) => Numbers::from(error),
+        }
+    }
+}
+
+// Of a token that was expected, whose acceptance has no root and no count.
+impl From<ParseResult<TokenId>> for Numbers {
+    ghost from_gives = { λ answer numbers. numbers ≡ of_consumed answer };
+
+    fn from(answer: ParseResult<TokenId>) -> Numbers {
+        match answer {
+            Ok(cursor) => Numbers::accepted(0, cursor, 0),
+            Err(error) => Numbers::from(error),
+        }
+    }
+}
+
+// `ok` and the cursor, or `no` and number, start, end and cursor.
+impl fmt::Display for Numbers {
+    fn fmt<W: fmt::Write>(&self, f: &mut fmt::Formatter<W>) -> fmt::Result {
+        if self.number == 0 {
+            write!(f, "ok {}", self.cursor)
+        } else {
+            write!(
+                f,
+                "no {} {} {} {}",
+                self.number, self.start, self.end, self.cursor
+            )
+        }
     }
 }
 
 // An optional comma and the token that closes a list, by the core.
-pub fn end_by_core(kinds: &[u8], cursor: TokenId, count: u32, closing: u8) -> Consumed
+pub fn end_by_core(row: &Row<'_>, cursor: TokenId, count: u32, closing: u8) -> ParseResult<TokenId>
     requires { cursor.0 ≤ Limits.Tokens }
-    ensures { Quiet consumed (ending closing) kinds.now cursor.0 count result }
+    ensures { Quiet consumed (ending closing) row.now.kinds.now cursor.0 count result }
 {
-    let comma = tokens::consume_optional(kinds, cursor, BaseToken::Comma);
-    let after = comma.cursor;
-    tokens::consume(kinds, after, count, closing)
+    let cursor = row
+        .consume_optional(cursor, BaseToken::Comma)
+        .unwrap_or(cursor);
+    row.consume(cursor, count, closing)
 }
 
 // Whether two answers are the same.
 pub fn same(a: Numbers, b: Numbers) -> bool
     ensures { (result ≡ true → a ≡ b) × (a ≡ b → result ≡ true) }
 {
-    if a.number != b.number {
-        return false;
-    }
-    if a.start != b.start {
-        return false;
-    }
-    if a.end != b.end {
-        return false;
-    }
-    if a.cursor != b.cursor {
-        return false;
-    }
-    if a.count != b.count {
-        return false;
-    }
-    true
+    a == b
 }

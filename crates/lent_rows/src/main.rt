@@ -5,24 +5,24 @@
 // SLOTS it has the kind that closes the list. Then the list, with too few slots and with as many as it needs.
 #![tactic(auto)]
 
-ghost use Rattle.std.specs.Prelude.{◌≡◌, ◌+◌, ◌≤◌, length};
+ghost use Rattle.std.specs.Prelude.{◌≤◌};
 ghost use Rattle.row_text.specs.LineLimits as LineLimits;
 
 use answers::Numbers;
-use codes::{Parsed, TokenId};
-use row_text::TOKENS;
-use tokens::Taken;
+use codes::{BaseToken, Parsed, TokenId, node_count};
+use row_text::Tokens;
+use show::{Reply, Shown};
+use std::io::{Result, Write};
+use tokens::{Row, Taken};
 
 mod answers;
 mod lists;
 
-// The file numbers of standard input and output.
+// The file number of standard input.
 const STDIN: i32 = 0;
 
-const STDOUT: i32 = 1;
-
 // The last of the kinds of tokens.
-const LAST_KIND: usize = 61;
+const LAST_KIND: u8 = BaseToken::Error;
 
 // The list's items, and the slots that it needs: an item has two nodes, and its end one.
 const ITEMS: u32 = 3;
@@ -33,160 +33,103 @@ const SLOTS: usize = 7;
 const UNUSED: u32 = 255;
 
 // Says so where an answer is not the core's.
-fn compare(ours: Numbers, core: Numbers) {
-    if !answers::same(ours, core) {
-        io::write_all(STDOUT, b" differs");
-    }
-}
-
-fn print_number(number: u32) {
-    io::write_all(STDOUT, b" ");
-    io::print_decimal(STDOUT, number as u64);
-}
-
-// `ok` and the cursor, or `no` and number, start, end and cursor.
-fn print_answer(answer: Numbers) {
-    if answer.number == 0 {
-        io::write_all(STDOUT, b" ok");
+fn compare(out: &mut impl Write, ours: Numbers, core: Numbers) -> Result<()> {
+    if answers::same(ours, core) {
+        Ok(())
     } else {
-        io::write_all(STDOUT, b" no");
-        print_number(answer.number);
-        print_number(answer.start);
-        print_number(answer.end);
+        out.write_all(b" differs")
     }
-    print_number(answer.cursor);
 }
 
-// A token's kind and an answer, after what stands before the first token or between two.
-fn print_token(first: bool, kind: u8, ended: Numbers) {
-    if first {
-        io::write_all(STDOUT, b": ");
-    } else {
-        io::write_all(STDOUT, b", ");
-    }
-    io::print_decimal(STDOUT, kind as u64);
-    print_answer(ended);
-}
-
-// The token at a place, looked at, taken and as a list's end, by the reader and by the core. The result is the next
-// place.
-fn show_token<'a>(kinds: &'a [u8], types: &'a [u8], at: u32, closing: u8) -> u32
-    requires { at ≤ LineLimits.tokens }
-    ensures { result ≡ at + 1 }
+// The token at a place, looked at, taken and as a list's end, by the reader and by the core.
+fn show_token(out: &mut impl Write, row: Row<'_>, place: u32, closing: u8) -> Result<()>
+    requires { place ≤ LineLimits.tokens }
 {
-    let cursor = TokenId(at);
-    let looked = reader::peek_at(kinds, types, cursor);
-    let taken = reader::take_at(kinds, types, cursor);
-    let ended = answers::of_consumed(reader::consume_end(kinds, types, cursor, 0, closing));
-    print_token(at == 0, taken.kind, ended);
+    let cursor = TokenId(place);
+    let looked = reader::peek_at(row, cursor);
+    let taken = reader::take_at(row, cursor);
+    let ended = Numbers::from(reader::consume_end(row, cursor, 0, closing));
     let core_looked = Taken {
-        kind: tokens::peek(kinds, cursor),
+        kind: row.peek(cursor),
         cursor,
     };
-    let core = tokens::take(kinds, cursor);
-    let core_ended = answers::of_consumed(answers::end_by_core(kinds, cursor, 0, closing));
-    compare(answers::of_taken(looked), answers::of_taken(core_looked));
-    compare(answers::of_taken(taken), answers::of_taken(core));
-    compare(ended, core_ended);
-    taken.cursor.0
+    let core_taken = row.take(cursor);
+    let core_ended = Numbers::from(answers::end_by_core(&row, cursor, 0, closing));
+    let before = if place == 0 { ": " } else { ", " };
+    write!(out, "{before}{} {ended}", taken.kind)?;
+    compare(out, Numbers::from(looked), Numbers::from(core_looked))?;
+    compare(out, Numbers::from(taken), Numbers::from(core_taken))?;
+    compare(out, ended, core_ended)
 }
 
 // The tokens of a row, one after another.
-fn show_tokens<'a>(kinds: &'a [u8], types: &'a [u8], closing: u8)
-    requires { length kinds.now ≤ LineLimits.tokens }
+fn show(out: &mut impl Write, text: &[u8], tokens: &Tokens, closing: u8) -> Result<()>
+    requires { tokens.now.count ≤ LineLimits.tokens }
 {
-    let mut at: u32 = 0;
-    while (at as usize) < kinds.len() {
-        at = show_token(kinds, types, at, closing);
+    let row = Row {
+        kinds: tokens.kinds(),
+        types: tokens.types(),
+    };
+    out.write_all(text)?;
+    for place in 0..row.kinds.len() {
+        show_token(out, row, place as u32, closing)?;
     }
-    io::write_all(STDOUT, b"\n");
+    out.write_all(b"\n")
 }
 
-// The first tokens of the two columns.
-fn show<'a>(all_kinds: &'a [u8; TOKENS], all_types: &'a [u8; TOKENS], tokens: usize, closing: u8)
-    requires { tokens ≤ LineLimits.tokens }
-{
-    let kinds: &[u8] = all_kinds;
-    let types: &[u8] = all_types;
-    show_tokens(&kinds[..tokens], &types[..tokens], closing);
-}
-
-// The row that a line says.
-fn show_row(line: &[u8]) {
-    let mut kinds = [0u8; TOKENS];
-    let mut types = [0u8; TOKENS];
-    let row = row_text::read_row(line, &mut kinds, &mut types);
-    let text = row.text;
-    let tokens = row.tokens;
-    let closing = row.slots;
-    if !row.good {
-        io::write_all(STDOUT, b"bad line\n");
-        return;
+fn show_line(out: &mut impl Write, line: &[u8], tokens: &mut Tokens) -> Result<()> {
+    if !lines::is_row(line) {
+        out.write_all(line)?;
+        return out.write_all(b"\n");
     }
-    if closing > LAST_KIND {
-        io::write_all(STDOUT, b"bad kind\n");
-        return;
-    }
-    io::write_all(STDOUT, &line[..text]);
-    show(&kinds, &types, tokens, closing as u8);
-}
-
-fn show_line(line: &[u8]) {
-    if line.len() == 0 || line[0] == b'#' {
-        io::write_all(STDOUT, line);
-        io::write_all(STDOUT, b"\n");
-        return;
-    }
-    show_row(line);
-}
-
-fn show_lines(input: &[u8]) {
-    let mut from: usize = 0;
-    while from < input.len() {
-        let end = lines::find(input, from, b'\n');
-        show_line(&input[from..end]);
-        from = end + 1;
+    let Some(row) = row_text::read_row(line, tokens) else {
+        return out.write_all(b"bad line\n");
+    };
+    match u8::try_from(row.slots) {
+        Ok(closing) if closing <= LAST_KIND => show(out, row.text, tokens, closing),
+        _ => out.write_all(b"bad kind\n"),
     }
 }
 
 // A list's reply and its nodes.
-fn print_list(text: &[u8], reply: Parsed, node_words: &[u32]) {
-    io::write_all(STDOUT, text);
-    let count = show::print_reply(reply);
-    show::print_words(node_words, count as usize);
+fn show_reply(out: &mut impl Write, name: &str, reply: Parsed, node_words: &[u32]) -> Result<()> {
+    let shown = Shown {
+        nodes: node_words,
+        count: node_count(reply) as usize,
+    };
+    writeln!(out, "{name}: {}{shown}", Reply(reply))
 }
 
 // The list with so many slots, by the lent record and by the core.
-fn show_list(slots: usize)
+fn show_list(out: &mut impl Write, slots: usize) -> Result<()>
     requires { slots ≤ 7 }
 {
-    let mut all_words = [UNUSED; SLOTS];
-    let node_words = &mut all_words[..slots];
+    let mut record_words = [UNUSED; SLOTS];
+    let record_words = &mut record_words[..slots];
+    let record = lists::list_by_record(record_words, TokenId(ITEMS), ITEMS);
+    show_reply(out, "record", record, record_words)?;
     let mut core_words = [UNUSED; SLOTS];
-    let node_words_2 = &mut core_words[..slots];
-    let reply = lists::list_by_record(node_words, TokenId(ITEMS), ITEMS);
-    let core = lists::list_by_core(node_words_2, TokenId(ITEMS), ITEMS);
-    print_list(b"record: ", reply, node_words);
-    print_list(b"core: ", core, node_words_2);
-    compare(answers::of_parsed(reply), answers::of_parsed(core));
+    let core_words = &mut core_words[..slots];
+    let core = lists::list_by_core(core_words, TokenId(ITEMS), ITEMS);
+    show_reply(out, "core", core, core_words)?;
+    compare(out, Numbers::from(record), Numbers::from(core))
 }
 
-fn show_lists() {
-    let mut slots: usize = 0;
-    while slots <= SLOTS {
-        show_list(slots);
-        slots += 1;
-    }
-}
-
-fn main() {
+fn main(rt: HostRuntime) -> Result<()> {
+    let mut out = rt.stdout();
     let mut input = io::large_buffer();
     let length = io::read_full(STDIN, &mut input);
     if length == input.len() {
-        io::write_all(STDOUT, b"bad file\n");
-        return;
+        return out.write_all(b"bad file\n");
     }
-    show_lines(&input[..length]);
-    io::write_all(STDOUT, b"\n# Three items, with 0 to 7 slots\n");
-    show_lists();
+    let mut tokens = Tokens::new();
+    for line in input[..length].split_inclusive(|byte| *byte == b'\n') {
+        let line = line.strip_suffix(b"\n").unwrap_or(line);
+        show_line(&mut out, line, &mut tokens)?;
+    }
+    out.write_all(b"\n# Three items, with 0 to 7 slots\n")?;
+    for slots in 0..=SLOTS {
+        show_list(&mut out, slots)?;
+    }
+    Ok(())
 }

@@ -1,35 +1,40 @@
 -- Decimal numbers in a line.
-use Rattle.std.specs.Prelude.{ℕ, zero, suc, ◌+◌, ◌-◌, ◌*◌, ◌≤◌, false, cond, List, eqb, ltb, length, get_or}
-use Rattle.lines.specs.declared.Decimal.{Decimal}
-use Rattle.lines.specs.declared.Digits.{Digits}
+use Rattle.std.specs.Prelude.{ℕ, ◌+◌, ◌-◌, ◌*◌, ◌≤◌, ◌<◌, cond, List, eqb, ltb, length, take, drop, Option, None, Some}
+use Rattle.std.specs.Char.{is_ascii_digit}
+use Rattle.std.specs.List.{fold, prefix_len}
+use Rattle.lines.specs.Line.{Within}
 
--- the value of a digit, and 10 for what is none
+-- the value of a digit
 abbrev pub digit_of : ℕ → ℕ
-digit_of byte = cond (ltb byte 48) 10 (cond (ltb 57 byte) 10 (byte - 48))
+digit_of byte = byte - 48
 
--- The number that a value and the digits after it are, of which so many places are left, and the place after them. It
--- ends, too, where it is above `most`.
-unfoldable pub digits_from : List ℕ → ℕ → ℕ → ℕ → ℕ → Digits
-digits_from line most value at zero = record { value = value; next = at }
-digits_from line most value at (suc left) =
-    cond (ltb most value)
-    (record { value = value; next = at })
-    (cond (eqb (digit_of (get_or line at 0)) 10)
-    (record { value = value; next = at })
-    (digits_from line most (value * 10 + digit_of (get_or line at 0)) (at + 1) left))
+-- how many digits begin a line
+abbrev pub digits_in : List ℕ → ℕ
+digits_in line = prefix_len is_ascii_digit line
 
--- the number at `from`, or that there is none that is at most `most`
-abbrev pub decimal_of : ℕ → ℕ → Digits → Decimal
-decimal_of from most d =
-    cond (ltb most d.value)
-    (record { found = false; value = 0; next = d.next })
-    (record { found = ltb from d.next; value = d.value; next = d.next })
+-- the value of digits
+abbrev pub value_of : List ℕ → ℕ
+value_of digits = fold (λ value byte. value * 10 + digit_of byte) 0 digits
 
-abbrev pub number_at : List ℕ → ℕ → ℕ → Decimal
-number_at line from most = decimal_of from most (digits_from line most 0 from (length line - from))
+-- a number, and what stands after it
+pub record Decimal : Type 0 where
+  pub value : ℕ
+  pub rest : List ℕ
 
--- a number that was read at `from` ends within the line, and is at most `most`
-pub record Numbered (line : List ℕ) (from most : ℕ) (r : Decimal) : Type 0 where
-  pub low : from ≤ r.next
-  pub high : r.next ≤ length line
-  pub value : r.value ≤ most
+abbrev pub decimal : ℕ → List ℕ → Decimal
+decimal value rest = record { value = value; rest = rest }
+
+-- the number of the first so many bytes of a line, or that there is none that is at most `most`
+abbrev pub decimal_of : List ℕ → ℕ → ℕ → Option Decimal
+decimal_of line most n =
+    cond (eqb n 0) None (cond (ltb most (value_of (take n line))) None (Some (decimal (value_of (take n line)) (drop n line))))
+
+-- the number at the beginning of a line: all the digits there
+abbrev pub number_at : List ℕ → ℕ → Option Decimal
+number_at line most = decimal_of line most (digits_in line)
+
+-- a number at the beginning of a line has a digit, ends within the line, and is at most `most`
+pub record Numbered (line : List ℕ) (most number : ℕ) (rest : List ℕ) : Type 0 where
+  pub low : length rest < length line
+  pub within : Within line rest
+  pub value : number ≤ most

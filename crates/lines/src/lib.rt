@@ -1,179 +1,94 @@
-// Places in a line of text, and the numbers and names that stand there, for the test programs.
+// The parts of a line of text, and the numbers and names that stand there, for the test programs. A line is bytes and
+// no `str`, since its text may be any bytes.
 #![tactic(auto)]
 
-ghost use Rattle.std.specs.Prelude.{ℕ, ◌+◌, ◌-◌, ◌≤◌, ◌<◌, ◌≡◌, length, get_or};
-ghost use Rattle.lines.specs.Line.{Within, Spaces, is_row, space, after_byte, name_from};
-ghost use Rattle.lines.specs.Numbers.{Numbered, digit_of, digits_from, number_at};
+ghost use Rattle.std.specs.Prelude.{◌≡◌, ◌<◌, ◌≤◌, None, Some, MatchOption, IfSome};
+ghost use Rattle.std.specs.Char.{is_ascii_digit};
+ghost use Rattle.std.specs.List.{AllPass};
+ghost use Rattle.lines.specs.Line.{Within, Lacks, Parted, Skipped, Trimmed, is_row, after_name};
+ghost use Rattle.lines.specs.Numbers.{Numbered, number_at, decimal, digits_in, value_of};
 
 // Numbers are decimal.
-const BASE: u64 = 10;
-
-// A number and the place after it; 0 where none was found.
-#[derive(Clone, Copy)]
-pub struct Decimal {
-    pub found: bool,
-    pub value: u32,
-    pub next: usize,
-}
-
-// A number of any size, and the place after it.
-#[derive(Clone, Copy)]
-struct Digits {
-    value: u64,
-    next: usize,
-}
+const BASE: u32 = 10;
 
 // Whether a line of an input says a row. One that is empty or begins with `#` says none.
 pub fn is_row(line: &[u8]) -> bool
     ensures { result ≡ is_row line.now }
 {
-    if line.len() == 0 {
-        return false;
-    }
-    line[0] != b'#'
+    line.first().is_some_and(|first| *first != b'#')
 }
 
-// The first place from here on with this byte, or the line's end.
-pub fn find(line: &[u8], from: usize, byte: u8) -> usize
-    requires { from ≤ length line.now }
-    ensures within { Within line.now from result }
-    ensures before { (k : ℕ) → k < result → from ≤ k → get_or line.now k 0 ≡ byte → ⊥ }
-    ensures found { result < length line.now → get_or line.now result 0 ≡ byte }
+// What stands before the first such byte, and what stands after it.
+pub fn split_once(line: &[u8], byte: u8) -> Option<(&[u8], &[u8])>
+    ensures { MatchOption result (Lacks line.now byte)
+        (λ parts. Parted line.now byte parts.0.now parts.1.now) }
 {
-    let mut at = from;
-    while at < line.len() {
-        if line[at] == byte {
-            return at;
-        }
-        at += 1;
-    }
-    at
+    let at = line.iter().position(|found| *found == byte)?;
+    Some((&line[..at], &line[at + 1..]))
 }
 
-// The place after this byte if it stands here, else this place.
-pub fn after(line: &[u8], from: usize, byte: u8) -> usize
-    requires { from ≤ length line.now }
-    ensures within { Within line.now from result }
-    ensures is { result ≡ after_byte line.now from byte }
+// What stands after this name, if the line begins with it.
+pub fn after<'a>(line: &'a [u8], name: &[u8]) -> Option<&'a [u8]>
+    ensures within { IfSome result (λ rest. Within line.now rest.now) }
+    ensures is { MatchOption result (after_name line.now name.now ≡ None)
+        (λ rest. after_name line.now name.now ≡ Some rest.now) }
 {
-    if from < line.len() {
-        if line[from] == byte {
-            return from + 1;
-        }
-    }
-    from
+    line.strip_prefix(name)
 }
 
-// The first place from here on without a space, or the line's end.
-pub fn skip(line: &[u8], from: usize) -> usize
-    requires { from ≤ length line.now }
-    ensures within { Within line.now from result }
-    ensures spaces { Spaces line.now from result }
-    ensures found { result < length line.now → get_or line.now result 0 ≡ space → ⊥ }
+// The line without the spaces at its beginning. Library `trim_ascii_start` would take tabs with them.
+pub fn skip(line: &[u8]) -> &[u8]
+    ensures { Skipped line.now result.now }
 {
-    let mut at = from;
-    while at < line.len() {
-        if line[at] != b' ' {
-            return at;
-        }
-        at += 1;
-    }
-    at
+    let start = line
+        .iter()
+        .position(|byte| *byte != b' ')
+        .unwrap_or(line.len());
+    &line[start..]
 }
 
-// The end of the line's first part, which ends here, without the spaces before its end.
-pub fn trim(line: &[u8], end: usize) -> usize
-    requires { end ≤ length line.now }
-    ensures within { result ≤ end }
-    ensures spaces { Spaces line.now result end }
-    ensures found { 0 < result → get_or line.now (result - 1) 0 ≡ space → ⊥ }
+// The line without the spaces at its end. Library `trim_ascii_end` would take tabs with them.
+pub fn trim(line: &[u8]) -> &[u8]
+    ensures { Trimmed line.now result.now }
 {
-    let mut at = end;
-    while at > 0 {
-        if line[at - 1] != b' ' {
-            return at;
-        }
-        at -= 1;
-    }
-    at
+    let end = line
+        .iter()
+        .rposition(|byte| *byte != b' ')
+        .map_or(0, |last| last + 1);
+    &line[..end]
 }
 
-// The value of a digit, and BASE for what is none.
-fn digit(byte: u8) -> u64
-    ensures { (result ≡ digit_of byte) × (result ≤ 10) }
+// How many digits begin the line.
+fn digits_in(line: &[u8]) -> usize
+    ensures { result ≡ digits_in line.now }
 {
-    if byte < b'0' {
-        return BASE;
-    }
-    if b'9' < byte {
-        return BASE;
-    }
-    (byte - b'0') as u64
+    line.iter().take_while(|byte| byte.is_ascii_digit()).count()
 }
 
-// The number that the digits from here on are, and the place after them. It ends, too, where it is above `most`.
-fn read_digits(line: &[u8], from: usize, most: u32) -> Digits
-    requires { from ≤ length line.now }
-    ensures value { result ≡ digits_from line.now most 0 from (length line.now - from) }
-    ensures within { Within line.now from result.next }
+// The value of these digits, if it is at most so large. Library `parse` would take a text, and these are bytes.
+fn value_of(digits: &[u8], most: u32) -> Option<u32>
+    requires { AllPass is_ascii_digit digits.now }
+    ensures { MatchOption result (most < value_of digits.now)
+        (λ value. (value ≡ value_of digits.now) × (value ≤ most)) }
 {
-    let limit = most as u64;
-    let mut at = from;
-    let mut value: u64 = 0;
-    while at < line.len() {
-        if limit < value {
-            return Digits { value, next: at };
-        }
-        let more = digit(line[at]);
-        if more == BASE {
-            return Digits { value, next: at };
-        }
-        value = value * BASE + more;
-        at += 1;
+    let mut value: u32 = 0;
+    for digit in digits {
+        let digit = u32::from(*digit - b'0');
+        value = value.checked_mul(BASE)?.checked_add(digit)?;
     }
-    Digits { value, next: at }
+    (value <= most).then_some(value)
 }
 
-// The number at this place, if it is at most so large.
-pub fn number(line: &[u8], from: usize, most: u32) -> Decimal
-    requires { from ≤ length line.now }
-    ensures bounds { Numbered line.now from most result }
-    ensures is { result ≡ number_at line.now from most }
+// The number that begins the line, if it is at most so large, and what stands after it.
+pub fn number(line: &[u8], most: u32) -> Option<(u32, &[u8])>
+    ensures bounds { IfSome result (λ read. Numbered line.now most read.0 read.1.now) }
+    ensures is { MatchOption result (number_at line.now most ≡ None)
+        (λ read. number_at line.now most ≡ Some (decimal read.0 read.1.now)) }
 {
-    let read = read_digits(line, from, most);
-    let value = read.value;
-    let next = read.next;
-    if (most as u64) < value {
-        return Decimal {
-            found: false,
-            value: 0,
-            next,
-        };
+    let (digits, rest) = line.split_at(digits_in(line));
+    if digits.is_empty() {
+        return None;
     }
-    Decimal {
-        found: from < next,
-        value: value as u32,
-        next,
-    }
-}
-
-// The place after this name if it stands here, else this place.
-pub fn named(line: &[u8], from: usize, name: &[u8]) -> usize
-    requires { from ≤ length line.now }
-    ensures within { Within line.now from result }
-    ensures is { result ≡ name_from line.now from name.now from 0 (length name.now) }
-{
-    let mut at = from;
-    let mut read: usize = 0;
-    while read < name.len() {
-        if line.len() <= at {
-            return from;
-        }
-        if line[at] != name[read] {
-            return from;
-        }
-        at += 1;
-        read += 1;
-    }
-    at
+    let value = value_of(digits, most)?;
+    Some((value, rest))
 }

@@ -5,10 +5,10 @@ use mathlib.Core.List.{List}
 use mathlib.Core.Option.{Option}
 use Prim.Native.Nat.{ℕ, ◌+◌, ◌≤◌}
 use native.Mathlib.Omega.{arith}
-use Rattle.codes.specs.declared.Parsed.{Parsed}
-use Rattle.codes.specs.declared.Parsed.TheVariants.{Node}
+use Rattle.std.specs.Prelude.{Ok}
 use Rattle.codes.specs.declared.NodeId.{NodeId}
-use Rattle.codes.specs.declared.TokenId.{TokenId}
+use Rattle.codes.specs.declared.Read.{Read}
+use Rattle.codes.specs.Answer.{ParseResult}
 use Rattle.codes.specs.Words.{Gives, nodes}
 use Rattle.codes.proofs.Onto.{Onto, split, plain-parsed}
 use Rattle.codes.proofs.Loops.{held_in, same-held}
@@ -16,11 +16,6 @@ use Rattle.nodes.specs.Answer.{WithinSlots, active, past}
 use Rattle.nodes.proofs.Bounds.{slots-after, item-fits}
 use Rattle.lists.specs.Answer.{Counted, linking}
 use Rattle.rules.specs.Codes.{pick}
-use Rattle.codes.specs.declared.TokenId.{TokenId}
-use Rattle.rules.specs.Codes.Limit as Limit
-use Rattle.lists.specs.declared.Owner.{Owner}
-use Rattle.lists.specs.declared.Owner.TheVariants.{Call}
-use Rattle.lists.specs.Answer.{Small}
 use Rattle.rules.specs.Reading.{Row, Outcome, Step, again, done, pure, ◌>>=◌, consume, optional}
 use Rattle.rules.specs.Lists.{Ends}
 use Rattle.rules.specs.Words.{Words, words}
@@ -65,20 +60,11 @@ item-turn at closing l content {b = b} {s' = s'} e h =
     let v : l.1 + 1 ≡ (held_in b).1 = ap (λ (x : Counted). x.1) y in
     (omega arith, omega arith)
 
--- a call's name and kind
-pub small-name : {o : Owner} → Small o → {name : TokenId} {builtin : ℕ} → o ≡ Call name builtin → name.0 ≤ Limit.Load
-unfolding Small
-small-name h e = (rw e at h).0
-
-pub small-kind : {o : Owner} → Small o → {name : TokenId} {builtin : ℕ} → o ≡ Call name builtin → builtin ≤ Limit.Load
-unfolding Small
-small-kind h e = (rw e at h).1
-
 -- after a list's end and the link to it
 pub link-slots :
-    {ns : List ℕ} (l : Option Ends) {c k : ℕ} {r : Parsed} {ns' : List ℕ} →
-    Gives (linking l) c (nodes ns k) r ns' → {n : NodeId} {p : TokenId} {j : ℕ} → r ≡ Node n p j →
-    WithinSlots ns k → WithinSlots ns' j
+    {ns : List ℕ} (l : Option Ends) {c k : ℕ} {r : ParseResult (Read NodeId)} {ns' : List ℕ} →
+    Gives (linking l) c (nodes ns k) r ns' → {v : Read NodeId} → r ≡ Ok v →
+    WithinSlots ns k → WithinSlots ns' v.count
 unfolding linking
 link-slots l {c = c} g q z =
     (slots-after plain-parsed

@@ -1,12 +1,14 @@
 -- The answers of the code as the rules give them.
 use Rattle.std.specs.Prelude.{ℕ, ◌≤◌}
 use Rattle.std.proofs.Math.Option.{Option}
-use Rattle.codes.specs.Answer.{Form, token}
-use Rattle.nodes.specs.Answer.{active}
+use Rattle.codes.specs.declared.Read.{Read}
+use Rattle.codes.specs.Answer.{State, reading}
+use Rattle.nodes.specs.Answer.{active, ends}
 use Rattle.lists.specs.declared.Owner.{Owner as Code}
 use Rattle.lists.specs.declared.Owner.TheVariants.{Call, Elements}
+use Rattle.lists.specs.declared.CountedList.{CountedList}
 use Rattle.lists.specs.declared.Turn.{Turn}
-use Rattle.lists.specs.declared.Turn.TheVariants.{More, Last, Refused}
+use Rattle.lists.specs.declared.Turn.TheVariants.{More, Last}
 use Rattle.rules.specs.Codes.BaseToken as BaseToken
 use Rattle.rules.specs.Codes.ParseNode as ParseNode
 use Rattle.rules.specs.Codes.Limit as Limit
@@ -24,13 +26,19 @@ owner_of Elements = elements
 abbrev pub Counted : Type 0
 Counted = Option Ends × ℕ
 
--- a list to which an item may be added, or the whole list
-abbrev pub turn_of : Step Counted Counted → ℕ → ℕ → Turn
-turn_of (again l) cursor count = More (active l.0) l.1 (token cursor) count
-turn_of (done l) cursor count = Last (active l.0) l.1 (token cursor) count
+abbrev pub counted : CountedList → Counted
+counted l = (ends l.list, l.items)
 
-abbrev pub turned : Form (Step Counted Counted) Turn
-turned = record { read = turn_of; refused = Refused }
+abbrev pub counted_list : Counted → CountedList
+counted_list l = record { list = active l.0; items = l.1 }
+
+-- a list to which an item may be added, or the whole list
+abbrev pub turn_of : Step Counted Counted → Turn
+turn_of (again l) = More (counted_list l)
+turn_of (done l) = Last (counted_list l)
+
+abbrev pub turned : Step Counted Counted → State → Read Turn
+turned = reading turn_of
 
 -- the rules of any row
 unfoldable pub closing_with : ℕ → Counted → Row → Rule Words (Step Counted Counted)
@@ -63,6 +71,6 @@ linking l = do
   append ParseNode.List t
 
 -- what a list belongs to fits words
-unfoldable pub Small : Code → Type 0
+abbrev pub Small : Code → Type 0
 Small (Call name builtin) = (name.0 ≤ Limit.Load) × (builtin ≤ Limit.Load)
 Small Elements = Unit {0}

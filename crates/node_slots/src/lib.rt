@@ -2,11 +2,13 @@
 // written is told from one that was not.
 #![tactic(auto)]
 
-ghost use Rattle.std.specs.Prelude.{◌≤◌, ◌<◌, min, ◌≡◌, length};
-ghost use Rattle.node_slots.specs.Kept.{old_kind, old_load, Filled, kept_slot, kept_from, appended_in};
+ghost use Rattle.std.specs.Prelude.{ℕ, ◌<◌, ◌≡◌, length, Some};
+ghost use Rattle.node_slots.specs.Kept.{old_kind, old_load, Filled, kept_slot, kept};
+ghost use Rattle.node_slots.specs.Appended.{mix, checksum, appended_text, end_of, appended_in};
 ghost use Rattle.node_slots.specs.SlotLimits as SlotLimits;
 
-use numbers::{least, wide};
+use show::{Columns, Nodes, Shown};
+use std::fmt;
 
 // The slots of a column: one more than an entry takes.
 pub const SLOTS: usize = 131_076;
@@ -19,9 +21,6 @@ const KINDS: usize = 128;
 // The loads that slots hold before a call, from this one on: above any token number, node number, count or code.
 const FIRST_LOAD: u32 = 4_000_000_000;
 
-// The file number of standard output.
-const STDOUT: i32 = 1;
-
 // So many nodes are printed one by one; of more than these, their number and a checksum.
 const MOST_PRINTED: usize = 512;
 
@@ -31,43 +30,48 @@ const MODULUS: u64 = 4_294_967_291;
 
 const FACTOR: u64 = 65_537;
 
-// What a slot of the kinds holds before the call.
-fn old_kind(slot: usize) -> u8
-    ensures { result ≡ old_kind slot }
-{
-    FIRST_KIND + (slot % KINDS) as u8
+// What a slot of a column holds before the call, by its place.
+pub trait Slot: Copy + PartialEq {
+    ghost old: { ℕ → Self };
+
+    // The places at which that is told.
+    ghost is_told: { ℕ → Type 0 };
+
+    fn old(slot: usize) -> Self
+        requires { is_told slot }
+        ensures { result ≡ old slot };
 }
 
-// What a slot of the loads holds before the call.
-fn old_load(slot: usize) -> u32
-    requires { slot < SlotLimits.slots }
-    ensures { result ≡ old_load slot }
-{
-    FIRST_LOAD + slot as u32
-}
+// A kind.
+impl Slot for u8 {
+    ghost old = { old_kind };
 
-// Every slot of the kinds holds what it holds before a call.
-pub fn fill_kinds(column: &mut [u8])
-    ensures column_len_unchanged { length column.new ≡ length column.old }
-    ensures filled { Filled old_kind column.new (length column.old) }
-{
-    let mut slot: usize = 0;
-    while slot < column.len() {
-        column[slot] = old_kind(slot);
-        slot += 1;
+    ghost is_told = { λ slot. Unit {0} };
+
+    fn old(slot: usize) -> u8 {
+        FIRST_KIND + (slot % KINDS) as u8
     }
 }
 
-// Every slot of the loads holds what it holds before a call.
-pub fn fill_loads(column: &mut [u32])
-    requires { length column.old ≤ SlotLimits.slots }
+// A load.
+impl Slot for u32 {
+    ghost old = { old_load };
+
+    ghost is_told = { λ slot. slot < SlotLimits.slots };
+
+    fn old(slot: usize) -> u32 {
+        FIRST_LOAD + slot as u32
+    }
+}
+
+// Every slot holds what it holds before a call.
+pub fn fill<T: Slot>(column: &mut [T])
+    requires { (slot : ℕ) → slot < length column.old → T.is_told slot }
     ensures column_len_unchanged { length column.new ≡ length column.old }
-    ensures filled { Filled old_load column.new (length column.old) }
+    ensures filled { Filled T.old column.new }
 {
-    let mut slot: usize = 0;
-    while slot < column.len() {
-        column[slot] = old_load(slot);
-        slot += 1;
+    for (slot, held) in column.iter_mut().enumerate() {
+        *held = T::old(slot);
     }
 }
 
@@ -75,91 +79,67 @@ pub fn fill_loads(column: &mut [u32])
 fn slot_kept(same: bool, slot: usize, given: usize, replied: usize) -> bool
     ensures { result ≡ kept_slot same slot given replied }
 {
-    if same {
-        return true;
-    }
-    if slot < given {
-        return false;
-    }
-    slot < replied
+    same || (given..replied).contains(&slot)
 }
 
 // Whether the slots below the given count and from the replied count on hold what they held before the call.
-pub fn kinds_kept(column: &[u8], given: usize, replied: usize) -> bool
-    ensures { result ≡ kept_from old_kind column.now given replied 0 (length column.now) }
+pub fn kept<T: Slot>(column: &[T], given: usize, replied: usize) -> bool
+    requires { (slot : ℕ) → slot < length column.now → T.is_told slot }
+    ensures { result ≡ kept T.eq T.old column.now given replied }
 {
-    let mut slot: usize = 0;
-    while slot < column.len() {
-        let same = column[slot] == old_kind(slot);
-        if !slot_kept(same, slot, given, replied) {
-            return false;
-        }
-        slot += 1;
-    }
-    true
-}
-
-pub fn loads_kept(column: &[u32], given: usize, replied: usize) -> bool
-    requires { length column.now ≤ SlotLimits.slots }
-    ensures { result ≡ kept_from old_load column.now given replied 0 (length column.now) }
-{
-    let mut slot: usize = 0;
-    while slot < column.len() {
-        let same = column[slot] == old_load(slot);
-        if !slot_kept(same, slot, given, replied) {
-            return false;
-        }
-        slot += 1;
-    }
-    true
-}
-
-fn wide_load(load: u32) -> u64 {
-    load as u64
+    let mut slots = column.iter().enumerate();
+    slots.all(|(slot, held)| slot_kept(*held == T::old(slot), slot, given, replied))
 }
 
 // The checksum with one more number. The remainders before the sum keep it within 64 bits.
-fn mix(sum: u64, more: u64) -> u64 {
+fn mix(sum: u64, more: u64) -> u64
+    ensures { result ≡ mix sum more }
+{
     (sum % MODULUS * FACTOR + more % MODULUS) % MODULUS
 }
 
 // The checksum over kind and load of each node.
-fn checksum(node_kinds: &[u8], node_loads: &[u32]) -> u64 {
-    let end = least(node_kinds.len(), node_loads.len());
-    let mut sum: u64 = 0;
-    let mut n: usize = 0;
-    while n < end {
-        sum = mix(
-            mix(sum, wide(node_kinds[n]) as u64),
-            wide_load(node_loads[n]),
-        );
-        n += 1;
-    }
-    sum
-}
-
-// The nodes, one by one, or their number and checksum; and the line's end.
-fn print_nodes(node_kinds: &[u8], node_loads: &[u32]) {
-    let count = least(node_kinds.len(), node_loads.len());
-    if count <= MOST_PRINTED {
-        show::print_nodes(node_kinds, node_loads, count);
-        return;
-    }
-    io::write_all(STDOUT, b", nodes ");
-    io::print_decimal(STDOUT, count as u64);
-    io::write_all(STDOUT, b", checksum ");
-    io::print_decimal(STDOUT, checksum(node_kinds, node_loads));
-    io::write_all(STDOUT, b"\n");
-}
-
-// The nodes from the given count up to the replied one, as far as both columns have slots. The result is how many there
-// were.
-pub fn print_appended(node_kinds: &[u8], node_loads: &[u32], given: usize, replied: usize) -> usize
-    ensures { result ≡ appended_in given replied (length node_kinds.now) (length node_loads.now) }
+fn checksum(kinds: &[u8], loads: &[u32]) -> u64
+    ensures { result ≡ checksum kinds.now loads.now }
 {
-    let slots = least(node_kinds.len(), node_loads.len());
-    let to = least(replied, slots);
-    let from = least(given, to);
-    print_nodes(&node_kinds[from..to], &node_loads[from..to]);
-    to - from
+    kinds.iter().zip(loads).fold(0, |sum, (kind, load)| {
+        mix(mix(sum, u64::from(*kind)), u64::from(*load))
+    })
+}
+
+// The nodes that a call appended: one by one, or their number and checksum.
+#[derive(Clone, Copy)]
+pub struct Appended<'a>(Columns<'a>);
+
+impl<'a> Appended<'a> {
+    // The nodes from the given count up to the replied one, as far as both columns have slots.
+    pub fn new(columns: Columns<'a>, given: usize, replied: usize) -> Appended<'a>
+        ensures kinds { result.0.kinds.now ≡ appended_in given
+            (end_of replied columns.entry.kinds.now columns.entry.loads.now) columns.entry.kinds.now }
+        ensures loads { result.0.loads.now ≡ appended_in given
+            (end_of replied columns.entry.kinds.now columns.entry.loads.now) columns.entry.loads.now }
+    {
+        let Columns { kinds, loads } = columns;
+        let to = replied.min(kinds.len()).min(loads.len());
+        let from = given.min(to);
+        Appended(Columns {
+            kinds: &kinds[from..to],
+            loads: &loads[from..to],
+        })
+    }
+}
+
+impl fmt::Display for Appended<'_> {
+    ghost output = { λ appended. Some (appended_text appended.0.kinds.now appended.0.loads.now) };
+
+    fn fmt<W: fmt::Write>(&self, f: &mut fmt::Formatter<W>) -> fmt::Result {
+        let nodes = self.0;
+        let count = nodes.count();
+        if count <= MOST_PRINTED {
+            write!(f, "{}", Shown { nodes, count })
+        } else {
+            let checksum = checksum(nodes.kinds, nodes.loads);
+            write!(f, ", nodes {count}, checksum {checksum}")
+        }
+    }
 }

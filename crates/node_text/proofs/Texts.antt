@@ -1,48 +1,37 @@
 -- How texts that are put one after the other make one.
-use Prim.Native.Nat.{ℕ, suc, ◌+◌, ◌-◌, ◌*◌, ◌≤◌, ◌<◌}
-use mathlib.Core.List.{List, [], ◌∷◌, ◌++◌, append_assoc, append-nil}
-use mathlib.Core.Path.{◌≡◌, refl, sym, ◌∙◌, ap, subst}
-use native.Mathlib.Omega.{arith}
-use lib.ListN.{length, length-append, length-set, length-take, set, take, drop, get_or}
-use lib.Seq.{take-suc-set, take-suc, take_all, drop-set-lt, drop-drop}
-use Rattle.codes.specs.declared.Parsed.{Parsed}
-use Rattle.codes.specs.declared.Parsed.TheVariants.{Node, Refused}
+use Rattle.std.proofs.Common.{◌≡◌, ℕ, zero, suc, ◌+◌, ◌-◌, ◌*◌, ◌≤◌, ◌<◌, List, [], ◌∷◌, ◌++◌, length, take, drop, get_or, refl, sym, ◌∙◌, ap, subst, arith, add-one, Bool, true, false, cond, ltb, ◌/◌, ◌%◌, append_assoc, append-nil, length-append}
+use Rattle.std.proofs.Math.Seq.{drop-drop}
+use Rattle.std.specs.Prelude.{Ok, Err}
+use Rattle.std.specs.Fmt.{decimal as std_decimal}
 use Rattle.codes.specs.declared.NodeId.{NodeId}
-use Rattle.codes.specs.declared.TokenId.{TokenId}
-use Rattle.codes.specs.Answer.{nodes}
-use Rattle.io.specs.Digits.{last_digits, IsDigitCount}
+use Rattle.codes.specs.declared.Read.{Read}
+use Rattle.codes.specs.declared.ParsingError.{ParsingError}
+use Rattle.codes.specs.Answer.{ParseResult, nodes}
 use Rattle.rules.specs.Columns.{Nodes}
-use Rattle.node_text.specs.Text.{decimal, byte_number, word, two, reply, line, lines}
-use Rattle.node_text.specs.Puts.{Puts, Room}
-use Rattle.node_text.proofs.Decimal.{decimal-short, few-digits, decimal-digits}
-
-next : (n : ℕ) → n + 1 ≡ suc n
-next n = omega arith
-
--- nothing, a byte, and a text after a text
-pub nothing_put : (xs : List ℕ) (at : ℕ) → Puts xs at [] xs at
-nothing_put xs at = record {
-  size = refl;
-  place = omega arith;
-  start = sym (append-nil (take at xs));
-  rest = refl;
-}
-
-pub byte_put : (xs : List ℕ) (at b : ℕ) → Room xs at 1 → Puts xs at (b ∷ []) (set xs at b) (at + 1)
-byte_put xs at b h = let r = h.there in record {
-  size = length-set xs at b;
-  place = refl;
-  start = rw (next at) (take-suc-set xs at b (omega arith));
-  rest = drop-set-lt (at + 1) xs at b (omega arith);
-}
+use Rattle.node_text.specs.declared.TextBuffer.{TextBuffer}
+use Rattle.node_text.specs.Text.{decimal_in, decimal, byte_number, word, two, reply, state_text, line, lines}
+use Rattle.node_text.specs.Puts.{Puts, Room, Adds}
+use Rattle.node_text.proofs.Decimal.{same_decimal}
 
 -- what is kept from a place on is kept from any place after it
 further : (xs ys : List ℕ) (mid k : ℕ) → drop mid ys ≡ drop mid xs → drop (mid + k) ys ≡ drop (mid + k) xs
 further xs ys mid k e = sym (drop-drop k mid ys) ∙ ap (drop k) e ∙ drop-drop k mid xs
 
-pub then :
+-- nothing, and a text after a text
+pub nothing_put : (x : TextBuffer) → Adds x [] x
+nothing_put x = record {
+  same = refl;
+  puts = record {
+    size = refl;
+    place = omega arith;
+    start = sym (append-nil (take x.end x.bytes.now));
+    rest = refl;
+  };
+}
+
+one-put :
     {xs ys zs t u : List ℕ} {at mid end : ℕ} → Puts xs at t ys mid → Puts ys mid u zs end → Puts xs at (t ++ u) zs end
-then {xs} {ys} {t = t} {u} {at} {mid} f g =
+one-put {xs} {ys} {t = t} {u} {at} {mid} f g =
     let l = length-append t u in
     let p = f.place in
     let q = g.place in
@@ -53,88 +42,43 @@ then {xs} {ys} {t = t} {u} {at} {mid} f g =
       rest = g.rest ∙ subst (λ (n : ℕ). drop n ys ≡ drop n xs) (sym q) (further xs ys mid (length u) f.rest);
     }
 
--- some bytes, of which the first n are put
-pub no-bytes-put : (bs xs : List ℕ) (at : ℕ) → Puts xs at (take 0 bs) xs (at + 0)
-no-bytes-put bs xs at = let e : at + 0 ≡ at = omega arith in rw e (nothing_put xs at)
+pub then : {x y z : TextBuffer} {t u : List ℕ} → Adds x t y → Adds y u z → Adds x (t ++ u) z
+then f g = record { same = g.same ∙ f.same; puts = one-put f.puts g.puts }
 
-pub all-put :
-    (bs : List ℕ) {xs ys : List ℕ} {at n : ℕ} → length bs ≤ n → Puts xs at (take n bs) ys (at + n) →
-    Puts xs at bs ys (at + n)
-all-put bs {xs} {ys} {at} {n} h p = subst (λ (t : List ℕ). Puts xs at t ys (at + n)) (take_all n bs h) p
+-- the room for the first text of two, and for the second one after it
+module _ (t u : List ℕ) {xs : List ℕ} {at : ℕ} (h : Room xs at (length (t ++ u))) where
+  pub first-room : Room xs at (length t)
+  first-room =
+      let l = length-append t u in
+      let r = h.there in
+      record { there = omega arith }
 
-pub more-put :
-    {xs ys : List ℕ} {at n : ℕ} (bs : List ℕ) → Room xs at (length bs) → n < length bs →
-    Puts xs at (take n bs) ys (at + n) → Puts xs at (take (n + 1) bs) (set ys (at + n) (get_or bs n 0)) (at + (n + 1))
-more-put {xs} {ys} {at} {n} bs h b f =
-    let s = f.size in
-    let r = h.there in
-    let g = then f (byte_put ys (at + n) (get_or bs n 0) (record { there = omega arith })) in
-    let e : at + n + 1 ≡ at + (n + 1) = omega arith in
-    let w : take (n + 1) bs ≡ take n bs ++ (get_or bs n 0 ∷ []) = rw (next n) (take-suc bs n 0 b) in
-    rw w (subst (λ (end : ℕ). Puts xs at (take n bs ++ (get_or bs n 0 ∷ [])) (set ys (at + n) (get_or bs n 0)) end) e g)
+  pub next-room : {ys : List ℕ} {mid : ℕ} → Puts xs at t ys mid → Room ys mid (length u)
+  next-room f =
+      let l = length-append t u in
+      let r = h.there in
+      let s = f.size in
+      let p = f.place in
+      record { there = omega arith }
 
--- a number
-pub number_put :
-    {xs ys : List ℕ} (ds : List ℕ) {at n end : ℕ} → n < 4294967296 → {k : ℕ} → IsDigitCount 10 1 n k →
-    take k ds ≡ last_digits 10 k n →
-    Puts xs at (take k ds) ys end → Puts xs at (decimal n) ys end
-number_put {xs} {ys} ds {at} {end = end} h {k} f e p =
-    subst (λ (t : List ℕ). Puts xs at t ys end) (e ∙ decimal-digits h k f) p
-
-module _ {xs ys zs : List ℕ} {at mid end : ℕ} where
-  pub after-put :
-      (b n : ℕ) → Puts xs at (b ∷ []) ys mid → Puts ys mid (decimal n) zs end → Puts xs at (byte_number b n) zs end
-  after-put b n f g = then f g
-
-  pub two-put :
-      (m n : ℕ) → Puts xs at (byte_number 32 m) ys mid → Puts ys mid (byte_number 32 n) zs end → Puts xs at (two m n) zs end
-  unfolding two
-  two-put m n f g = then f g
-
-module _ {xs ys zs us : List ℕ} {at p q end : ℕ} where
-  pub word-put :
-      (a b n : ℕ) → Puts xs at (a ∷ []) ys p → Puts ys p (b ∷ []) zs q → Puts zs q (byte_number 32 n) us end →
-      Puts xs at (word a b n) us end
-  unfolding word
-  word-put a b n f g h = then f (then g h)
-
-  pub accepted-put :
-      {r : Parsed} {root : NodeId} {cursor : TokenId} {count : ℕ} → r ≡ Node root cursor count →
-      Puts xs at (word 111 107 root.0) ys p → Puts ys p (two cursor.0 count) zs q → Puts zs q (10 ∷ []) us end →
-      Puts xs at (reply r) us end
-  unfolding reply
-  accepted-put e f g h = rw e (then (then f g) h)
-
-  pub line-put :
-      (n k l : ℕ) → Puts xs at (decimal n) ys p → Puts ys p (two k l) zs q → Puts zs q (10 ∷ []) us end →
-      Puts xs at (line n k l) us end
-  unfolding line
-  line-put n k l f g h = then (then f g) h
-
-  module _ {vs : List ℕ} {z : ℕ} where
-    pub refused-put :
-        {r : Parsed} {number : ℕ} {first last cursor : TokenId} {count : ℕ} →
-        r ≡ Refused number cursor count first last →
-        Puts xs at (word 110 111 number) ys p → Puts ys p (two first.0 last.0) zs q →
-        Puts zs q (two cursor.0 count) us z → Puts us z (10 ∷ []) vs end → Puts xs at (reply r) vs end
-    unfolding reply
-    refused-put e f g h i = rw e (then (then (then f g) h) i)
-
--- the lines of nodes
-pub no_lines : (s : Nodes) (xs : List ℕ) (at : ℕ) → Puts xs at (lines s 0) xs at
-unfolding lines
-no_lines s xs at = nothing_put xs at
-
-pub lines-put :
-    (ks ls : List ℕ) (count n : ℕ) {at mid end : ℕ} {xs ys zs : List ℕ} → Puts xs at (lines (nodes ks ls count) n)
-    ys mid →
-    Puts ys mid (line n (get_or ks n 0) (get_or ls n 0)) zs end → Puts xs at (lines (nodes ks ls count) (n + 1)) zs end
-unfolding lines
-lines-put ks ls count n f g = rw (next n) (then f g)
+pub less-room : {xs : List ℕ} {at m k : ℕ} → Room xs at k → m ≤ k → Room xs at m
+less-room f h = let r = f.there in record { there = omega arith }
 
 -- how long the texts are
+short-by :
+    {most : ℕ} (small : Bool) (a b : ℕ) (t : List ℕ) → length t ≤ most →
+    length (cond small (a ∷ []) (t ++ b ∷ [])) ≤ suc most
+short-by true a b t h = omega arith
+short-by false a b t h = let e = length-append t (b ∷ []) in omega arith
+
+decimal-in-short : (most n : ℕ) → length (decimal_in most n) ≤ most
+unfolding decimal_in
+decimal-in-short zero n = omega arith
+decimal-in-short (suc most) n =
+    short-by (ltb n 10) _ (48 + n % 10) (decimal_in most (n / 10)) (decimal-in-short most (n / 10))
+
 after-short : (b n : ℕ) → length (byte_number b n) ≤ 11
-after-short b n = let h = decimal-short n in omega arith
+after-short b n = let h = decimal-in-short 10 n in omega arith
 
 two-short : (m n : ℕ) → length (two m n) ≤ 22
 unfolding two
@@ -142,6 +86,12 @@ two-short m n =
     let e = length-append (byte_number 32 m) (byte_number 32 n) in
     let f = after-short 32 m in
     let g = after-short 32 n in
+    omega arith
+
+state-short : (cursor count : ℕ) → length (state_text cursor count) ≤ 23
+state-short cursor count =
+    let e = length-append (two cursor count) (10 ∷ []) in
+    let f = two-short cursor count in
     omega arith
 
 word-short : (a b n : ℕ) → length (word a b n) ≤ 13
@@ -153,114 +103,124 @@ unfolding line
 line-short n k l =
     let e = length-append (decimal n) (two k l) in
     let f = length-append (decimal n ++ two k l) (10 ∷ []) in
-    let h = decimal-short n in
+    let h = decimal-in-short 10 n in
     let i = two-short k l in
     omega arith
 
--- the room that is left after a text of at most b bytes
-pub room :
-    {xs t ys : List ℕ} {at end b k m : ℕ} → length t ≤ b → Puts xs at t ys end → Room xs at k → b + m ≤ k →
-    Room ys end m
-room h p f g =
-    let s = p.size in
-    let e = p.place in
-    let r = f.there in
-    record { there = omega arith }
-
-pub digits-room :
-    {xs : List ℕ} {n k at : ℕ} (ds : List ℕ) → n < 4294967296 → IsDigitCount 10 1 n k → k ≡ length (take k ds) →
-    Room xs at 10 → Room xs at (length (take k ds))
-digits-room ds h f e g =
-    let a = few-digits h f in
-    let r = g.there in
-    record { there = omega arith }
-
-module _ {xs ys : List ℕ} {at p : ℕ} where
-  pub byte-room : {b k m : ℕ} → Puts xs at (b ∷ []) ys p → Room xs at k → 1 + m ≤ k → Room ys p m
-  byte-room f h e = room (omega arith) f h e
-
-  pub number-room : (n : ℕ) {k m : ℕ} → Puts xs at (decimal n) ys p → Room xs at k → 10 + m ≤ k → Room ys p m
-  number-room n f h e = room (decimal-short n) f h e
-
-  pub after-room : (b n : ℕ) {k m : ℕ} → Puts xs at (byte_number b n) ys p → Room xs at k → 11 + m ≤ k → Room ys p m
-  after-room b n f h e = room (after-short b n) f h e
-
-  pub word_room : (a b n : ℕ) {k m : ℕ} → Puts xs at (word a b n) ys p → Room xs at k → 13 + m ≤ k → Room ys p m
-  word_room a b n f h e = room (word-short a b n) f h e
-
-  -- and after two, and three
-  module _ {zs : List ℕ} {q : ℕ} where
-    rooms :
-        {t u : List ℕ} {a b k m : ℕ} → length t ≤ a → length u ≤ b → Puts xs at t ys p → Puts ys p u zs q →
-        Room xs at k →
-        a + b + m ≤ k → Room zs q m
-    rooms {b = b} {m = m} c d f g h e = room d g (room {m = b + m} c f h (omega arith)) (omega arith)
-
-    pub bytes-room :
-        {a b k m : ℕ} → Puts xs at (a ∷ []) ys p → Puts ys p (b ∷ []) zs q → Room xs at k → 2 + m ≤ k → Room zs q m
-    bytes-room f g h e = rooms {a = 1} {b = 1} (omega arith) (omega arith) f g h e
-
-    pub number-two-room :
-        (n c d : ℕ) {k m : ℕ} → Puts xs at (decimal n) ys p → Puts ys p (two c d) zs q → Room xs at k → 32 + m ≤ k →
-        Room zs q m
-    number-two-room n c d f g h e = rooms (decimal-short n) (two-short c d) f g h e
-
-    pub word-two-room :
-        (a b n c d : ℕ) {k m : ℕ} → Puts xs at (word a b n) ys p → Puts ys p (two c d) zs q → Room xs at k →
-        35 + m ≤ k → Room zs q m
-    word-two-room a b n c d f g h e = rooms (word-short a b n) (two-short c d) f g h e
-
-    pub word-two-two-room :
-        (a b n c d x y : ℕ) {k m : ℕ} {us : List ℕ} {end : ℕ} → Puts xs at (word a b n) ys p → Puts ys p (two c d)
-        zs q →
-        Puts zs q (two x y) us end → Room xs at k → 57 + m ≤ k → Room us end m
-    word-two-two-room a b n c d x y {m = m} f g i h e =
-        room (two-short x y) i (word-two-room a b n c d {m = 22 + m} f g h (omega arith)) (omega arith)
-
--- a text at the start is within the buffer
-pub puts-fit : {xs t ys : List ℕ} {end : ℕ} → Puts xs 0 t ys end → end ≤ length ys
-puts-fit {ys = ys} {end} p =
-    let a : length (take end ys) ≡ _ = ap length p.start in
-    let b = length-take end ys in
-    let c = p.place in
+pub reply-short : (r : ParseResult (Read NodeId)) → length (reply r) ≤ 64
+unfolding reply
+reply-short (Ok read) =
+    let a = length-append (word 111 107 read.value.0) (state_text read.cursor.0 read.count) in
+    let b = word-short 111 107 read.value.0 in
+    let c = state-short read.cursor.0 read.count in
+    omega arith
+reply-short (Err error) =
+    let a = length-append (word 110 111 error.number) (two error.start.0 error.end.0) in
+    let b =
+    length-append (word 110 111 error.number ++ two error.start.0 error.end.0) (state_text error.cursor.0 error.count) in
+    let c = word-short 110 111 error.number in
+    let d = two-short error.start.0 error.end.0 in
+    let e = state-short error.cursor.0 error.count in
     omega arith
 
--- the room for lines, and the lines of all nodes
-pub less-room : {xs : List ℕ} {at m k : ℕ} → Room xs at k → m ≤ k → Room xs at m
-less-room f h = let r = f.there in record { there = omega arith }
+-- a number in decimal
+module _ (n : ℕ) (h : n < 4294967296) {digits bytes : List ℕ} (e : digits ≡ std_decimal n) (f : bytes ≡ digits) where
+  pub digits-room : {xs : List ℕ} {at : ℕ} → Room xs at (length (decimal n)) → Room xs at (length bytes)
+  digits-room r = rw (f, e, same_decimal n h) r
 
-module _ {xs : List ℕ} {at : ℕ} (count : ℕ) where
-  pub first-room : Room xs at (33 * count) → Room xs at (33 * (count - 0))
-  first-room f = less-room f (omega arith)
+  pub digits-put : {x y : TextBuffer} → Adds x bytes y → Adds x (decimal n) y
+  digits-put a = rw (f, e, same_decimal n h) at a
 
-  pub line-room : (n : ℕ) → n < count → Room xs at (33 * (count - n)) → Room xs at 33
-  line-room n h f = less-room f (omega arith)
+-- the reply, by its case: what is put of it one after the other
+module _ (read : Read NodeId) where
+  accepted : List ℕ
+  accepted = word 111 107 read.value.0
 
-  pub next-room :
-      (n k l : ℕ) {ys : List ℕ} {end : ℕ} → n < count → Puts xs at (line n k l) ys end →
-      Room xs at (33 * (count - n)) → Room ys end (33 * (count - (n + 1)))
-  next-room n k l h p f = room (line-short n k l) p f (omega arith)
+  module _ {xs : List ℕ} {at : ℕ} (h : Room xs at 64) where
+    accepted-room : Room xs at (length (accepted ++ state_text read.cursor.0 read.count))
+    unfolding reply accepted
+    accepted-room = less-room h (reply-short (Ok read))
+
+    pub root-room : Room xs at (length (111 ∷ 107 ∷ byte_number 32 read.value.0))
+    unfolding word accepted
+    root-room = first-room accepted (state_text read.cursor.0 read.count) accepted-room
+
+    pub accepted-state-room :
+        {ys : List ℕ} {mid : ℕ} → Puts xs at (111 ∷ 107 ∷ byte_number 32 read.value.0) ys mid →
+        Room ys mid (length (state_text read.cursor.0 read.count))
+    unfolding word accepted
+    accepted-state-room f = next-room accepted (state_text read.cursor.0 read.count) accepted-room f
+
+  pub accepted-put :
+      {r : ParseResult (Read NodeId)} → r ≡ Ok read → {x y z : TextBuffer} →
+      Adds x (111 ∷ 107 ∷ byte_number 32 read.value.0) y → Adds y (state_text read.cursor.0 read.count) z →
+      Adds x (reply r) z
+  unfolding reply word
+  accepted-put e f g = rw e (then f g)
+
+module _ (error : ParsingError) where
+  refused : List ℕ
+  refused = word 110 111 error.number
+
+  ends : List ℕ
+  ends = two error.start.0 error.end.0
+
+  module _ {xs : List ℕ} {at : ℕ} (h : Room xs at 64) where
+    refused-room : Room xs at (length (refused ++ ends ++ state_text error.cursor.0 error.count))
+    unfolding reply refused ends
+    refused-room = less-room h (reply-short (Err error))
+
+    ends_room : Room xs at (length (refused ++ ends))
+    ends_room = first-room (refused ++ ends) (state_text error.cursor.0 error.count) refused-room
+
+    pub number-room : Room xs at (length (110 ∷ 111 ∷ byte_number 32 error.number))
+    unfolding word refused
+    number-room = first-room refused ends ends_room
+
+    module _ {ys : List ℕ} {mid : ℕ} (f : Puts xs at (110 ∷ 111 ∷ byte_number 32 error.number) ys mid) where
+      pub ends-room : Room ys mid (length (two error.start.0 error.end.0))
+      unfolding word refused ends
+      ends-room = next-room refused ends ends_room f
+
+      pub refused-state-room :
+          {zs : List ℕ} {end : ℕ} → Puts ys mid (two error.start.0 error.end.0) zs end →
+          Room zs end (length (state_text error.cursor.0 error.count))
+      unfolding word refused ends
+      refused-state-room g =
+          next-room (refused ++ ends) (state_text error.cursor.0 error.count) refused-room (one-put f g)
+
+  pub refused-put :
+      {r : ParseResult (Read NodeId)} → r ≡ Err error → {x y z v : TextBuffer} →
+      Adds x (110 ∷ 111 ∷ byte_number 32 error.number) y → Adds y (two error.start.0 error.end.0) z →
+      Adds z (state_text error.cursor.0 error.count) v → Adds x (reply r) v
+  unfolding reply word
+  refused-put e f g h = rw e (then (then f g) h)
+
+-- the lines of nodes
+pub no_lines : (s : Nodes) (x : TextBuffer) → Adds x (lines s 0) x
+unfolding lines
+no_lines s x = nothing_put x
 
 pub all_lines :
-    (s : Nodes) {xs ys : List ℕ} {at n count end : ℕ} → n ≤ count → count ≤ n → Puts xs at (lines s n) ys end →
-    Puts xs at (lines s count) ys end
-all_lines s {xs} {ys} {at} {n} {count} {end} h b p =
-    let e : n ≡ count = omega arith in
-    subst (λ (k : ℕ). Puts xs at (lines s k) ys end) e p
+    (s : Nodes) {n count : ℕ} → n ≤ count → count ≤ n → {x y : TextBuffer} → Adds x (lines s n) y →
+    Adds x (lines s count) y
+all_lines s {n} {count} h b f = let e : count ≡ n = omega arith in rw e f
 
-pub reply-short : (r : Parsed) → length (reply r) ≤ 64
-unfolding reply
-reply-short (Node root cursor count) =
-    let a = length-append (word 111 107 root.0) (two cursor.0 count) in
-    let b = length-append (word 111 107 root.0 ++ two cursor.0 count) (10 ∷ []) in
-    let c = word-short 111 107 root.0 in
-    let d = two-short cursor.0 count in
-    omega arith
-reply-short (Refused number cursor count first last) =
-    let a = length-append (word 110 111 number) (two first.0 last.0) in
-    let b = length-append (word 110 111 number ++ two first.0 last.0) (two cursor.0 count) in
-    let c = length-append (word 110 111 number ++ two first.0 last.0 ++ two cursor.0 count) (10 ∷ []) in
-    let d = word-short 110 111 number in
-    let e = two-short first.0 last.0 in
-    let f = two-short cursor.0 count in
-    omega arith
+module _ {count : ℕ} {xs : List ℕ} {at : ℕ} (n : ℕ) (b : n < count) (h : Room xs at (33 * (count - n))) where
+  pub line-room : (k l : ℕ) → Room xs at (length (line n k l))
+  line-room k l = let s = line-short n k l in less-room h (omega arith)
+
+  pub lines-room :
+      (k l : ℕ) {ys : List ℕ} {end : ℕ} → Puts xs at (line n k l) ys end → Room ys end (33 * (count - (n + 1)))
+  lines-room k l f =
+      let s = line-short n k l in
+      let r = h.there in
+      let p = f.place in
+      let q = f.size in
+      record { there = omega arith }
+
+pub lines-put :
+    (ks ls : List ℕ) (count n : ℕ) {x y z : TextBuffer} → Adds x (lines (nodes ks ls count) n) y →
+    Adds y (line n (get_or ks n 0) (get_or ls n 0)) z → Adds x (lines (nodes ks ls count) (n + 1)) z
+unfolding lines
+lines-put ks ls count n f g = rw (add-one n) (then f g)

@@ -1,14 +1,15 @@
 -- The text that penne-nodes writes, in bytes.
-use Rattle.std.specs.Prelude.{ℕ, zero, suc, ◌+◌, ◌/◌, ◌%◌, cond, List, [], ◌∷◌, ◌++◌, ltb}
-use Rattle.codes.specs.declared.Parsed.{Parsed}
-use Rattle.codes.specs.declared.Parsed.TheVariants.{Node, Refused}
+use Rattle.std.specs.Prelude.{ℕ, zero, suc, ◌+◌, ◌/◌, ◌%◌, cond, List, [], ◌∷◌, ◌++◌, ltb, Ok, Err}
+use Rattle.codes.specs.declared.NodeId.{NodeId}
+use Rattle.codes.specs.declared.Read.{Read}
+use Rattle.codes.specs.Answer.{ParseResult}
 use Rattle.rules.specs.Columns.{Nodes}
 use Rattle.rules.specs.Ways.{kind_at, load_at}
 
 abbrev space : ℕ
 space = 32
 
-abbrev newline : List ℕ
+abbrev pub newline : List ℕ
 newline = 10 ∷ []
 
 abbrev digit : ℕ → ℕ
@@ -35,11 +36,15 @@ word a b n = a ∷ b ∷ byte_number space n
 unfoldable pub two : ℕ → ℕ → List ℕ
 two m n = byte_number space m ++ byte_number space n
 
+-- the cursor and the node count, and the line's end
+abbrev pub state_text : ℕ → ℕ → List ℕ
+state_text cursor count = two cursor count ++ newline
+
 -- the first line: `ok` or `no`, and the values of the reply (MANUAL.md, The program penne-nodes)
-unfoldable pub reply : Parsed → List ℕ
-reply (Node root cursor count) = word 111 107 root.0 ++ two cursor.0 count ++ newline
-reply (Refused number cursor count start end) =
-    word 110 111 number ++ two start.0 end.0 ++ two cursor.0 count ++ newline
+unfoldable pub reply : ParseResult (Read NodeId) → List ℕ
+reply (Ok read) = word 111 107 read.value.0 ++ state_text read.cursor.0 read.count
+reply (Err error) =
+    word 110 111 error.number ++ two error.start.0 error.end.0 ++ state_text error.cursor.0 error.count
 
 -- a line of three numbers for a node
 unfoldable pub line : ℕ → ℕ → ℕ → List ℕ

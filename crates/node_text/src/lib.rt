@@ -1,142 +1,145 @@
-// The text that penne-nodes writes, put into a buffer from a place on. Each function returns the place after what it has
-// put there, and keeps what stands before and after it.
+// The text that penne-nodes writes, put into a buffer after what stands there. What stands before it and after it is kept.
+// The functions ask for room and cannot fail, where what `write!` gives may be an error.
 #![tactic(auto)]
 
-ghost use Rattle.std.specs.Prelude.{◌≤◌, ◌+◌, ◌*◌, [], ◌∷◌, length};
+ghost use Rattle.std.specs.Prelude.{◌≡◌, ◌≤◌, ◌*◌, [], ◌∷◌, ◌++◌, length};
 ghost use Rattle.codes.specs.Answer.{nodes};
-ghost use Rattle.node_text.specs.Text.{decimal, byte_number, word, two, line, lines, bad_file};
-ghost use Rattle.node_text.specs.Text.{reply as reply·text};
-ghost use Rattle.node_text.specs.Puts.{Puts, Room};
+ghost use Rattle.node_text.specs.Puts.{Adds, HasRoom};
+ghost use Rattle.node_text.specs.Text.{decimal, byte_number, two, state_text, line, lines, bad_file};
+ghost use Rattle.node_text.specs.Text.{reply as reply_text};
 
-use codes::Parsed;
+use codes::{Node, Parsed, TokenId};
+use itoa::Buffer;
 
-// A byte.
-fn put(out: &mut [u8], at: usize, byte: u8) -> usize
-    requires { Room out.old at 1 }
-    ensures { Puts out.old at (byte ∷ []) out.new result }
-{
-    out[at] = byte;
-    at + 1
+// A buffer, and the place after the text in it.
+#[derive(Drop)]
+pub struct TextBuffer<'a> {
+    pub bytes: &'a mut [u8],
+    pub end: usize,
 }
 
-// Some bytes.
-fn put_bytes(out: &mut [u8], at: usize, bytes: &[u8]) -> usize
-    requires { Room out.old at (length bytes.now) }
-    ensures { Puts out.old at bytes.now out.new result }
-{
-    let mut n: usize = 0;
-    while n < bytes.len() {
-        out[at + n] = bytes[n];
-        n += 1;
+impl<'a> TextBuffer<'a> {
+    // A buffer with no text yet.
+    pub fn new(bytes: &'a mut [u8]) -> TextBuffer<'a>
+        ensures same_reference { result.bytes.ghost_name ≡ bytes.entry.ghost_name }
+        ensures no_text { (result.bytes.now ≡ bytes.old) × (result.end ≡ 0) }
+    {
+        TextBuffer { bytes, end: 0 }
     }
-    at + n
 }
 
-// A number in decimal.
-fn put_number(out: &mut [u8], at: usize, number: u32) -> usize
-    requires { Room out.old at 10 }
-    ensures { Puts out.old at (decimal number) out.new result }
-{
-    let mut digits = [0u8; 20];
-    let count = io::decimal(number as u64, &mut digits);
-    put_bytes(out, at, &digits[..count])
-}
+impl TextBuffer<'_> {
+    // A byte.
+    fn put(&mut self, byte: u8)
+        requires { HasRoom self.old 1 }
+        ensures { Adds self.old (byte ∷ []) self.new }
+    {
+        self.bytes[self.end] = byte;
+        self.end += 1;
+    }
 
-// A byte and a number.
-fn put_after(out: &mut [u8], at: usize, byte: u8, number: u32) -> usize
-    requires { Room out.old at 11 }
-    ensures { Puts out.old at (byte_number byte number) out.new result }
-{
-    let next = put(out, at, byte);
-    put_number(out, next, number)
-}
+    // Some bytes.
+    fn put_bytes(&mut self, bytes: &[u8])
+        requires { HasRoom self.old (length bytes.now) }
+        ensures { Adds self.old bytes.now self.new }
+    {
+        let next = self.end + bytes.len();
+        let room = &mut self.bytes[self.end..next];
+        room.copy_from_slice(bytes);
+        self.end = next;
+    }
 
-// Two numbers more.
-fn put_two(out: &mut [u8], at: usize, first: u32, second: u32) -> usize
-    requires { Room out.old at 22 }
-    ensures { Puts out.old at (two first second) out.new result }
-{
-    let next = put_after(out, at, b' ', first);
-    put_after(out, next, b' ', second)
-}
+    // A number in decimal.
+    fn put_number(&mut self, number: u32)
+        requires { HasRoom self.old (length (decimal number)) }
+        ensures { Adds self.old (decimal number) self.new }
+    {
+        let mut digits = Buffer::new();
+        self.put_bytes(digits.format(number).as_bytes());
+    }
 
-// A word of two letters and a number, at the start.
-fn put_word(out: &mut [u8], first: u8, second: u8, number: u32) -> usize
-    requires { Room out.old 0 13 }
-    ensures { Puts out.old 0 (word first second number) out.new result }
-{
-    let next = put(out, 0, first);
-    let end = put(out, next, second);
-    put_after(out, end, b' ', number)
-}
+    // A byte and a number.
+    fn put_after(&mut self, byte: u8, number: u32)
+        requires { HasRoom self.old (length (byte_number byte number)) }
+        ensures { Adds self.old (byte_number byte number) self.new }
+    {
+        self.put(byte);
+        self.put_number(number);
+    }
 
-// A node's number, kind and load.
-fn put_node(out: &mut [u8], at: usize, number: u32, kind: u8, load: u32) -> usize
-    requires { Room out.old at 33 }
-    ensures { Puts out.old at (line number kind load) out.new result }
-{
-    let after_number = put_number(out, at, number);
-    let after_load = put_two(out, after_number, kind as u32, load);
-    put(out, after_load, b'\n')
-}
+    // Two numbers more.
+    fn put_two(&mut self, first: u32, second: u32)
+        requires { HasRoom self.old (length (two first second)) }
+        ensures { Adds self.old (two first second) self.new }
+    {
+        self.put_after(b' ', first);
+        self.put_after(b' ', second);
+    }
 
-// That the input is bad, at the start.
-pub fn put_bad_file(out: &mut [u8]) -> usize
-    requires { Room out.old 0 9 }
-    ensures { Puts out.old 0 bad_file out.new result }
-{
-    put_bytes(out, 0, b"bad file\n")
-}
+    // A node's number, kind and load.
+    fn put_node(&mut self, number: u32, node: Node)
+        requires { HasRoom self.old (length (line number node.0 node.1)) }
+        ensures { Adds self.old (line number node.0 node.1) self.new }
+    {
+        self.put_number(number);
+        self.put_two(u32::from(node.0), node.1);
+        self.put(b'\n');
+    }
 
-// The first line: the reply's numbers.
-pub fn put_reply(out: &mut [u8], reply: Parsed) -> usize
-    requires { Room out.old 0 64 }
-    ensures { Puts out.old 0 (reply·text reply) out.new result }
-{
-    match reply {
-        Parsed::Node {
-            root,
-            cursor,
-            count,
-        } => {
-            let after_root = put_word(out, b'o', b'k', root.0);
-            let after_count = put_two(out, after_root, cursor.0, count);
-            put(out, after_count, b'\n')
+    // A word and a number.
+    fn put_word(&mut self, word: &[u8], number: u32)
+        requires { HasRoom self.old (length (word.now ++ byte_number 32 number)) }
+        ensures { Adds self.old (word.now ++ byte_number 32 number) self.new }
+    {
+        self.put_bytes(word);
+        self.put_after(b' ', number);
+    }
+
+    // The cursor and the node count, and the line's end.
+    fn put_state(&mut self, cursor: TokenId, count: u32)
+        requires { HasRoom self.old (length (state_text cursor.0 count)) }
+        ensures { Adds self.old (state_text cursor.0 count) self.new }
+    {
+        self.put_two(cursor.0, count);
+        self.put(b'\n');
+    }
+
+    // That the input is bad.
+    pub fn put_bad_file(&mut self)
+        requires { HasRoom self.old 9 }
+        ensures { Adds self.old bad_file self.new }
+    {
+        self.put_bytes(b"bad file\n");
+    }
+
+    // The first line: the reply's numbers.
+    pub fn put_reply(&mut self, reply: Parsed)
+        requires { HasRoom self.old 64 }
+        ensures { Adds self.old (reply_text reply) self.new }
+    {
+        match reply {
+            Ok(read) => {
+                self.put_word(b"ok", read.value.0);
+                self.put_state(read.cursor, read.count);
+            }
+            Err(error) => {
+                self.put_word(b"no", error.number);
+                self.put_two(error.start.0, error.end.0);
+                self.put_state(error.cursor, error.count);
+            }
         }
-        Parsed::Refused {
-            number,
-            start,
-            end,
-            cursor,
-            count,
-        } => {
-            let after_number = put_word(out, b'n', b'o', number);
-            let after_end = put_two(out, after_number, start.0, end.0);
-            let after_count = put_two(out, after_end, cursor.0, count);
-            put(out, after_count, b'\n')
+    }
+
+    // A line for each node below the count. The loop counts the numbers, since they are put, too.
+    pub fn put_nodes(&mut self, node_kinds: &[u8], node_loads: &[u32], count: u32)
+        requires count_in_bounds { (count ≤ length node_kinds.now)
+            × (count ≤ length node_loads.now) }
+        requires room { HasRoom self.old (33 * count) }
+        ensures { Adds self.old (lines (nodes node_kinds.now node_loads.now count) count) self.new }
+    {
+        for number in 0..count {
+            let place = number as usize;
+            self.put_node(number, Node(node_kinds[place], node_loads[place]));
         }
     }
-}
-
-// A line for each node below the count.
-pub fn put_nodes(
-    out: &mut [u8],
-    at: usize,
-    node_kinds: &[u8],
-    node_loads: &[u32],
-    count: u32,
-) -> usize
-    requires count_in_bounds { (count ≤ length node_kinds.now) × (count ≤ length node_loads.now) }
-    requires room { Room out.old at (33 * count) }
-    ensures { Puts out.old at (lines (nodes node_kinds.now node_loads.now count) count) out.new result }
-{
-    let mut place = at;
-    let mut number: u32 = 0;
-    while number < count {
-        let kind = node_kinds[number as usize];
-        let load = node_loads[number as usize];
-        place = put_node(out, place, number, kind, load);
-        number += 1;
-    }
-    place
 }

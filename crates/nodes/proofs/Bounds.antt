@@ -1,5 +1,5 @@
 -- What the words' functions take for granted holds where they are called, and after them.
-use mathlib.Core.Path.{◌≡◌, refl, sym, ◌∙◌, ap}
+use mathlib.Core.Path.{◌≡◌, refl, ◌∙◌, ap}
 use mathlib.Core.List.{List}
 use mathlib.Core.Bool.{Bool, true, false}
 use mathlib.Core.Option.{Option, some, none}
@@ -7,18 +7,15 @@ use Prim.Native.Nat.{ℕ, ◌+◌, ◌≤◌}
 use lib.ListN.{length}
 use lib.Dec.{ltb}
 use native.Mathlib.Omega.{arith}
-use Rattle.codes.specs.declared.Parsed.{Parsed}
-use Rattle.codes.specs.declared.Parsed.TheVariants.{Node}
+use Rattle.std.specs.Prelude.{Ok}
 use Rattle.codes.specs.declared.NodeId.{NodeId}
-use Rattle.codes.specs.declared.TokenId.{TokenId}
-use Rattle.codes.specs.Answer.{Form}
+use Rattle.codes.specs.declared.Read.{Read}
+use Rattle.codes.specs.Answer.{State, ParseResult, state, token}
 use Rattle.codes.specs.Words.{As, Gives, Sized, nodes}
-use Rattle.codes.proofs.Onto.{Onto, Plain, came-read, moved, plain-parsed}
+use Rattle.codes.proofs.Onto.{Onto, Plain, came-read, moved, plain-parsed, came-node}
 use Rattle.nodes.specs.declared.ActiveList.{ActiveList}
-use Rattle.nodes.specs.declared.Listed.{Listed}
-use Rattle.nodes.specs.declared.Listed.TheVariants.{List as Items}
-use Rattle.nodes.specs.Answer.{WithinSlots, ends, active, past, listed, append_two}
-use Rattle.nodes.proofs.Laws.{active-ends, holding-listed}
+use Rattle.nodes.specs.Answer.{WithinSlots, ends, active, listed, past, append_two}
+use Rattle.nodes.proofs.Laws.{active-ends, plain-listed, listed-back}
 use Rattle.rules.specs.Codes.Limit as Limit
 use Rattle.rules.specs.Codes.Refusal as Refusal
 use Rattle.rules.specs.Reading.{Rule, Outcome, ok, no, pure, ◌>>=◌}
@@ -36,11 +33,11 @@ same-slots e z = rw e z
 
 -- after a rule that read something: the slots, no fewer nodes than before, and what the rule leaves
 pub slots-after :
-    {A R : Type 0} {F : Form A R} → Plain F → {m : Rule Words A} {n c : ℕ} {Q : A → ℕ → Type 0} → Goes n m c Q → c ≤ n →
-    {ns : List ℕ} {k : ℕ} {r : R} {ns' : List ℕ} → As F m c (nodes ns k) r ns' →
-    {a : A} {p j : ℕ} → r ≡ F.read a p j → WithinSlots ns k → WithinSlots ns' j × (k ≤ j) × Q a p
+    {A T : Type 0} {f : A → State → T} → Plain f → {m : Rule Words A} {n c : ℕ} {Q : A → ℕ → Type 0} → Goes n m c Q → c ≤ n →
+    {ns : List ℕ} {k : ℕ} {r : ParseResult T} {ns' : List ℕ} → As f m c (nodes ns k) r ns' →
+    {a : A} {p j : ℕ} → r ≡ Ok (f a (state (token p) j)) → WithinSlots ns k → WithinSlots ns' j × (k ≤ j) × Q a p
 slots-after P h b g q z =
-    let (_, e, w) = moved (came-read P g q) h z.used b in (
+    let (_, e, w) = moved (came-read g P q) h z.used b in (
       record { slots = rw w.slots z.slots; used = w.fits },
       w.grew,
       e,
@@ -48,13 +45,13 @@ slots-after P h b g q z =
 
 -- after a node
 module _
-    {ns : List ℕ} (kind load : ℕ) {c k : ℕ} {r : Parsed} {ns' : List ℕ}
-    (g : Gives (append kind load) c (nodes ns k) r ns') {n : NodeId} {p : TokenId} {j : ℕ} (q : r ≡ Node n p j)
+    {ns : List ℕ} (kind load : ℕ) {c k : ℕ} {r : ParseResult (Read NodeId)} {ns' : List ℕ}
+    (g : Gives (append kind load) c (nodes ns k) r ns') {v : Read NodeId} (q : r ≡ Ok v)
     (z : WithinSlots ns k) where
-  pub after_push : WithinSlots ns' j × (k ≤ j) × (p.0 ≡ c)
+  pub after_push : WithinSlots ns' v.count × (k ≤ v.count) × (v.cursor.0 ≡ c)
   after_push = slots-after plain-parsed (appends {n = c} kind load) (omega arith) g q z
 
-  pub push-slots : WithinSlots ns' j
+  pub push-slots : WithinSlots ns' v.count
   push-slots = after_push.0
 
 -- a node's number fits a load
@@ -93,16 +90,16 @@ append-last kind load {c} {s} {n} {c'} {s'} e = go (ltb s.count (length s.words)
         absurd (omega arith)
 
 pub push-root :
-    {ns : List ℕ} (kind load : ℕ) {c k : ℕ} {r : Parsed} {ns' : List ℕ} →
-    Gives (append kind load) c (nodes ns k) r ns' → {n : NodeId} {p : TokenId} {j : ℕ} → r ≡ Node n p j →
-    WithinSlots ns k → n.0 ≤ Limit.Load
-push-root kind load g q z = let e = append-root kind load (came-read plain-parsed g q) in omega arith
+    {ns : List ℕ} (kind load : ℕ) {c k : ℕ} {r : ParseResult (Read NodeId)} {ns' : List ℕ} →
+    Gives (append kind load) c (nodes ns k) r ns' → {v : Read NodeId} → r ≡ Ok v →
+    WithinSlots ns k → v.value.0 ≤ Limit.Load
+push-root kind load g q z = let e = append-root kind load (came-node g q) in omega arith
 
 -- after two
 pub two-slots :
-    {ns : List ℕ} (kind load kind' load' : ℕ) {c k : ℕ} {r : Parsed} {ns' : List ℕ} →
-    Gives (append_two kind load kind' load') c (nodes ns k) r ns' → {n : NodeId} {p : TokenId} {j : ℕ} →
-    r ≡ Node n p j → WithinSlots ns k → WithinSlots ns' j
+    {ns : List ℕ} (kind load kind' load' : ℕ) {c k : ℕ} {r : ParseResult (Read NodeId)} {ns' : List ℕ} →
+    Gives (append_two kind load kind' load') c (nodes ns k) r ns' → {v : Read NodeId} →
+    r ≡ Ok v → WithinSlots ns k → WithinSlots ns' v.count
 unfolding append_two
 two-slots kind load kind' load' {c = c} g q z =
     (slots-after plain-parsed
@@ -111,9 +108,9 @@ two-slots kind load kind' load' {c = c} g q z =
 
 -- after a list's end
 pub end-slots :
-    {ns : List ℕ} (l : Option Ends) {c k : ℕ} {r : Parsed} {ns' : List ℕ} →
-    Gives (push_end_of_list l) c (nodes ns k) r ns' → {n : NodeId} {p : TokenId} {j : ℕ} → r ≡ Node n p j →
-    WithinSlots ns k → WithinSlots ns' j
+    {ns : List ℕ} (l : Option Ends) {c k : ℕ} {r : ParseResult (Read NodeId)} {ns' : List ℕ} →
+    Gives (push_end_of_list l) c (nodes ns k) r ns' → {v : Read NodeId} → r ≡ Ok v →
+    WithinSlots ns k → WithinSlots ns' v.count
 end-slots l {c = c} g q z = (slots-after plain-parsed (closes {n = c} l) (omega arith) g q z).0
 
 -- and so does the first item of a list, or its end
@@ -140,22 +137,21 @@ end-first l {c} {s} {n} {c'} {s'} e h = go l (ltb s.count (length s.words)) refl
         absurd (omega arith)
 
 pub end-root :
-    {ns : List ℕ} (l : ActiveList) {c k : ℕ} {r : Parsed} {ns' : List ℕ} →
-    Gives (push_end_of_list (ends l)) c (nodes ns k) r ns' → {n : NodeId} {p : TokenId} {j : ℕ} → r ≡ Node n p j →
-    WithinSlots ns k → past l ≤ k → n.0 ≤ Limit.Load
+    {ns : List ℕ} (l : ActiveList) {c k : ℕ} {r : ParseResult (Read NodeId)} {ns' : List ℕ} →
+    Gives (push_end_of_list (ends l)) c (nodes ns k) r ns' → {v : Read NodeId} → r ≡ Ok v →
+    WithinSlots ns k → past l ≤ k → v.value.0 ≤ Limit.Load
 end-root l g q z h =
     let h' = rw (← active-ends l) at h in
-    let e = end-first (ends l) (came-read plain-parsed g q) h' in
+    let e = end-first (ends l) (came-node g q) h' in
     omega arith
 
 -- after an item
 pub after-item :
-    {ns : List ℕ} (l : Option Ends) {c k : ℕ} {o : Listed} {ns' : List ℕ} →
-    As listed (push_list_item l) c (nodes ns k) o ns' → {m : ActiveList} {p : TokenId} {j : ℕ} → o ≡ Items m p j →
-    WithinSlots ns k → WithinSlots ns' j × (k ≤ j) × (p.0 ≡ c)
-after-item l {c = c} g {m} {p} {j} q z =
-    slots-after holding-listed.plain (items {n = c} l) (omega arith) g {a = ends m}
-    (q ∙ ap (λ (x : ActiveList). Items x p j) (sym (active-ends m))) z
+    {ns : List ℕ} (l : Option Ends) {c k : ℕ} {o : ParseResult (Read ActiveList)} {ns' : List ℕ} →
+    As listed (push_list_item l) c (nodes ns k) o ns' → {v : Read ActiveList} → o ≡ Ok v →
+    WithinSlots ns k → WithinSlots ns' v.count × (k ≤ v.count) × (v.cursor.0 ≡ c)
+after-item l {c = c} g {v} q z =
+    slots-after plain-listed (items {n = c} l) (omega arith) g {a = ends v.value} (q ∙ listed-back) z
 
 -- an item is one node more, and the place after its list is at most the count, if that was so of the list before
 item-added :

@@ -1,11 +1,10 @@
 -- The answers of the code as the rules give them.
 use Rattle.std.specs.Prelude.{ℕ, ◌+◌, ◌≤◌, max, List, length}
 use Rattle.std.proofs.Math.Option.{Option, some, none}
-use Rattle.codes.specs.Answer.{Form, token, node_id}
+use Rattle.codes.specs.declared.Read.{Read}
+use Rattle.codes.specs.Answer.{State, node_id, reading}
 use Rattle.nodes.specs.declared.ActiveList.{ActiveList}
 use Rattle.nodes.specs.declared.ActiveList.TheVariants.{Empty, Open}
-use Rattle.nodes.specs.declared.Listed.{Listed}
-use Rattle.nodes.specs.declared.Listed.TheVariants.{List as Items, Full}
 use Rattle.rules.specs.Codes.Limit as Limit
 use Rattle.rules.specs.Reading.{Rule, ◌>>=◌}
 use Rattle.rules.specs.Lists.{Ends}
@@ -25,14 +24,14 @@ abbrev pub active : Option Ends → ActiveList
 active none = Empty
 active (some e) = Open (node_id e.first) (node_id e.last)
 
+-- a list with one item more
+abbrev pub listed : Option Ends → State → Read ActiveList
+listed = reading active
+
 -- the place after an open list's items, 0 where it has none
 unfoldable pub past : ActiveList → ℕ
 past Empty = 0
 past (Open f l) = max f.0 l.0 + 1
-
--- a list with one item more
-abbrev pub listed : Form (Option Ends) Listed
-listed = record { read = λ l cursor count. Items (active l) (token cursor) count; refused = Full }
 
 -- two nodes, of which the second one is what is read
 unfoldable pub append_two : ℕ → ℕ → ℕ → ℕ → Rule Words ℕ

@@ -10,49 +10,40 @@ ghost use Rattle.rules.specs.Words.{packed, append, push_list_item, push_end_of_
 ghost use Rattle.codes.specs.Words.{As, Gives, nodes};
 ghost use Rattle.nodes.specs.Answer.{listed, ends, past, WithinSlots, append_two};
 
-use codes::{NodeId, ParseNode, Parsed, Refusal, TokenId};
+use codes::{Node, NodeId, ParseNode, ParseResult, Parsed, ParsingError, Read, Refusal, TokenId};
 
-// A list whose end is yet to come: its first and its last item.
+// A list whose end is yet to come: its first and its last item. It is no Option of a struct, since that is moved as one
+// number of 64 bits, which takes 10 in 100 instructions more on a struct of many members.
 #[derive(Clone, Copy)]
 pub enum ActiveList {
     Empty,
-    Open { first: NodeId, last: NodeId },
-}
-
-// A list with one item more, or a refusal.
-#[derive(Clone, Copy)]
-pub enum Listed {
-    List {
-        list: ActiveList,
-        cursor: TokenId,
-        count: u32,
-    },
-    Full {
-        refusal: Parsed,
+    Open {
+        first_node: NodeId,
+        last_node: NodeId,
     },
 }
 
 // A node is appended.
-pub fn push(node_words: &mut [u32], cursor: TokenId, count: u32, kind: u8, load: u32) -> Parsed
-    requires { WithinSlots node_words.old count × (load ≤ Limits.Load) }
-    ensures { Gives (append kind load) cursor.0 (nodes node_words.old count) result node_words.new }
+pub fn push(node_words: &mut [u32], cursor: TokenId, count: u32, node: Node) -> Parsed
+    requires { WithinSlots node_words.old count × (node.1 ≤ Limits.Load) }
+    ensures { Gives (append node.0 node.1) cursor.0 (nodes node_words.old count) result node_words.new }
 {
     let at = count as usize;
     if at < node_words.len() {
-        node_words[at] = codes::word(kind, load);
-        Parsed::Node {
-            root: NodeId(count),
+        node_words[at] = codes::word(node.0, node.1);
+        Ok(Read {
+            value: NodeId(count),
             cursor,
             count: count + 1,
-        }
+        })
     } else {
-        Parsed::Refused {
+        Err(ParsingError {
             number: Refusal::NoSlot,
             start: cursor,
             end: cursor,
             cursor,
             count,
-        }
+        })
     }
 }
 
@@ -61,24 +52,14 @@ pub fn push_two(
     node_words: &mut [u32],
     cursor: TokenId,
     count: u32,
-    kind: u8,
-    load: u32,
-    second_kind: u8,
-    second_load: u32,
+    first: Node,
+    second: Node,
 ) -> Parsed
-    requires { WithinSlots node_words.old count × (load ≤ Limits.Load) × (second_load ≤ Limits.Load) }
-    ensures { Gives (append_two kind load second_kind second_load) cursor.0 (nodes node_words.old count) result node_words.new }
+    requires { WithinSlots node_words.old count × (first.1 ≤ Limits.Load) × (second.1 ≤ Limits.Load) }
+    ensures { Gives (append_two first.0 first.1 second.0 second.1) cursor.0 (nodes node_words.old count) result node_words.new }
 {
-    let first = push(node_words, cursor, count, kind, load);
-    let Parsed::Node {
-        root: _,
-        cursor: after,
-        count: used,
-    } = first
-    else {
-        return first;
-    };
-    push(node_words, after, used, second_kind, second_load)
+    let Read { cursor, count, .. } = push(node_words, cursor, count, first)?;
+    push(node_words, cursor, count, second)
 }
 
 // A node that links to one before it.
@@ -86,7 +67,7 @@ pub fn push_older_node(node_words: &mut [u32], cursor: TokenId, count: u32, node
     requires { WithinSlots node_words.old count × (node.0 ≤ Limits.Load) }
     ensures { Gives (append Kind.Item node.0) cursor.0 (nodes node_words.old count) result node_words.new }
 {
-    push(node_words, cursor, count, ParseNode::Item, node.0)
+    push(node_words, cursor, count, Node(ParseNode::Item, node.0))
 }
 
 // A node that links to a list's first item, or to its end where it has none.
@@ -94,7 +75,7 @@ pub fn push_list(node_words: &mut [u32], cursor: TokenId, count: u32, first: Nod
     requires { WithinSlots node_words.old count × (first.0 ≤ Limits.Load) }
     ensures { Gives (append Kind.List first.0) cursor.0 (nodes node_words.old count) result node_words.new }
 {
-    push(node_words, cursor, count, ParseNode::List, first.0)
+    push(node_words, cursor, count, Node(ParseNode::List, first.0))
 }
 
 // The item links to the node that follows it.
@@ -119,36 +100,44 @@ pub fn push_list_item(
     cursor: TokenId,
     count: u32,
     list: ActiveList,
-) -> Listed
+) -> ParseResult<Read<ActiveList>>
     requires { WithinSlots node_words.old count × (past list ≤ count) }
-    ensures { As listed (push_list_item (ends list)) cursor.0 (nodes node_words.old count) result node_words.new }
+    ensures { As listed (push_list_item (ends list)) cursor.0 (nodes node_words.old count) result
+        node_words.new }
 {
-    let item = push(node_words, cursor, count, ParseNode::UnpatchedListItem, 0);
-    let Parsed::Node {
-        root,
-        cursor: after,
-        count: used,
-    } = item
-    else {
-        return Listed::Full { refusal: item };
-    };
+    let Read {
+        value: new_node,
+        cursor,
+        count,
+    } = push(
+        node_words,
+        cursor,
+        count,
+        Node(ParseNode::UnpatchedListItem, 0),
+    )?;
     match list {
-        ActiveList::Empty => Listed::List {
-            list: ActiveList::Open {
-                first: root,
-                last: root,
-            },
-            cursor: after,
-            count: used,
-        },
-        ActiveList::Open { first, last } => {
-            patch_list_item(node_words, last, root);
-            Listed::List {
-                list: ActiveList::Open { first, last: root },
-                cursor: after,
-                count: used,
-            }
+        ActiveList::Open {
+            first_node,
+            last_node,
+        } => {
+            patch_list_item(node_words, last_node, new_node);
+            Ok(Read {
+                value: ActiveList::Open {
+                    first_node,
+                    last_node: new_node,
+                },
+                cursor,
+                count,
+            })
         }
+        ActiveList::Empty => Ok(Read {
+            value: ActiveList::Open {
+                first_node: new_node,
+                last_node: new_node,
+            },
+            cursor,
+            count,
+        }),
     }
 }
 
@@ -160,26 +149,22 @@ pub fn push_end_of_list(
     list: ActiveList,
 ) -> Parsed
     requires { WithinSlots node_words.old count × (past list ≤ count) }
-    ensures { Gives (push_end_of_list (ends list)) cursor.0 (nodes node_words.old count) result node_words.new }
+    ensures { Gives (push_end_of_list (ends list)) cursor.0 (nodes node_words.old count) result
+        node_words.new }
 {
-    let end = push(node_words, cursor, count, ParseNode::NoMoreItems, 0);
-    let Parsed::Node {
-        root,
-        cursor: after,
-        count: used,
-    } = end
-    else {
-        return end;
-    };
+    let end = push(node_words, cursor, count, Node(ParseNode::NoMoreItems, 0))?;
     match list {
-        ActiveList::Empty => end,
-        ActiveList::Open { first, last } => {
-            patch_list_item(node_words, last, root);
-            Parsed::Node {
-                root: first,
-                cursor: after,
-                count: used,
-            }
+        ActiveList::Open {
+            first_node,
+            last_node,
+        } => {
+            patch_list_item(node_words, last_node, end.value);
+            Ok(Read {
+                value: first_node,
+                cursor: end.cursor,
+                count: end.count,
+            })
         }
+        ActiveList::Empty => Ok(end),
     }
 }

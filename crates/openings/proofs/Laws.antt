@@ -3,34 +3,31 @@ use mathlib.Core.Path.{◌≡◌, refl, sym, ◌∙◌}
 use mathlib.Core.Bool.{Bool, true, false}
 use mathlib.Core.Option.{none}
 use mathlib.Core.List.{List, [], ◌∷◌}
-use Prim.Native.Nat.{ℕ, ◌+◌, ◌≤◌}
+use Prim.Native.Nat.{ℕ, ◌+◌}
 use native.Mathlib.Omega.{arith}
 use mathlib.Core.Logic.{◌⊎◌, inl, inr}
-use Rattle.codes.specs.declared.Parsed.{Parsed}
+use Rattle.std.specs.Prelude.{Ok, Err}
+use Rattle.codes.specs.declared.ParsingError.{ParsingError}
+use Rattle.codes.specs.declared.Read.{Read}
 use Rattle.codes.specs.declared.TokenId.{TokenId}
-use Rattle.codes.specs.Answer.{row, token}
+use Rattle.codes.specs.Answer.{ParseResult, row, token}
 use Rattle.codes.specs.Words.{Quiet, Sized}
-use Rattle.codes.proofs.Onto.{Onto, ◌then◌, first, stays, reads, at_here, takes, shows, held, hands_on, came-read}
+use Rattle.codes.proofs.Onto.{Onto, ◌then◌, first, stays, reads, at_here, takes, shows, told, hands_on}
 use Rattle.codes.proofs.Onto.{Rest, sized-after}
 use Rattle.codes.proofs.Loops.{round-last}
-use Rattle.tokens.specs.declared.Consumed.{Consumed}
-use Rattle.tokens.specs.declared.Consumed.TheVariants.{Next, Wrong}
 use Rattle.tokens.specs.Answer.{kind_in, consumed, consuming}
-use Rattle.tokens.proofs.Laws.{holding-consumed, there, not_there, apart}
+use Rattle.tokens.proofs.Laws.{came-consumed, there, not_there, apart}
 use Rattle.tokens.proofs.Bounds.{past-token, past-consumed}
 use Rattle.references.specs.declared.Address.{Address}
-use Rattle.references.specs.declared.Address.TheVariants.{Name as At, Refused as NoName}
-use Rattle.references.specs.Answer.{addressed, addressing, Near}
-use Rattle.references.proofs.Laws.{holding-addressed}
+use Rattle.references.specs.Answer.{addressed, addressing}
+use Rattle.references.proofs.Laws.{plain-addressed, came-address}
 use Rattle.lists.specs.declared.Owner.TheVariants.{Call, Elements}
-use Rattle.lists.specs.Answer.{Small}
 use Rattle.openings.specs.declared.Opening.{Opening}
 use Rattle.openings.specs.declared.Opening.TheVariants.{List as Items, Fields, Reference, Name, Group, Literal}
 use Rattle.openings.specs.declared.Opening.TheVariants.{Refused}
-use Rattle.openings.specs.Answer.{Holds, Onward, Opens, Starts, Fits, listed, referred, alone, grouped}
+use Rattle.openings.specs.Answer.{Holds, Onward, Opens, Starts, listed, referred, alone, grouped}
 use Rattle.openings.specs.Answer.{naming, calling, pointing, primary_or}
 use Rattle.rules.specs.Codes.BaseToken as BaseToken
-use Rattle.rules.specs.Codes.Limit as Limit
 use Rattle.rules.specs.Reading.{Rule, ◌>>=◌, choose}
 use Rattle.rules.specs.Words.{Words, words, push_end_of_list}
 use Rattle.rules.specs.Expressions.{named, builtin, pointer, reference, primary, stepped, steps, step, deref}
@@ -41,13 +38,13 @@ use Rattle.rules.proofs.Moves.{address-moves}
 
 -- what every reader takes for granted holds after a name and the ampersands before it
 past-address :
-    (tk tv : List ℕ) (start : ℕ) (ns : List ℕ) {c k : ℕ} {a : Address} →
+    (tk tv : List ℕ) (start : ℕ) (ns : List ℕ) {c k : ℕ} {a : ParseResult (Read Address)} →
     Quiet addressed (addressing start) tk c k a →
-    {depth : ℕ} {name p : TokenId} {j : ℕ} → a ≡ At depth name p j → Sized tk tv ns c k → Sized tk tv ns p.0 j
+    {v : Read Address} → a ≡ Ok v → Sized tk tv ns c k → Sized tk tv ns v.cursor.0 v.count
 unfolding addressing
-past-address tk tv start ns {c = c} g e z =
-    (sized-after z holding-addressed.plain (address-moves (below (row tk tv)) (omega arith) start c)
-    (g.run tv ns) e).0
+past-address tk tv start ns {c = c} g {v} e z =
+    (sized-after z plain-addressed (address-moves (below (row tk tv)) (omega arith) start c)
+    (g.run tv ns) {a = (v.value.depth, v.value.name.0)} e).0
 
 -- after a name, by the next token
 module _ (tk : List ℕ) (name : TokenId) (c t k : ℕ) (peeked : t ≡ kind_in tk c) where
@@ -112,48 +109,49 @@ module _ (tk : List ℕ) (name : TokenId) (c t k : ℕ) (peeked : t ≡ kind_in 
   }
 
 -- after a Builtin
-module _ {tk : List ℕ} (name : TokenId) {c k : ℕ} {o : Consumed}
+module _ {tk : List ℕ} (name : TokenId) {c k : ℕ} {o : ParseResult TokenId}
     (g : Quiet consumed (consuming BaseToken.ParenLeft) tk c k o) where
   pub builtin-opens :
-      {p : TokenId} {j : ℕ} → o ≡ Next p j → Opens (calling name.0) tk name.0 c k (Items p j (Call name 1))
+      {p : TokenId} → o ≡ Ok p → Opens (calling name.0) tk name.0 c k (Items p k (Call name 1))
   unfolding Opens calling listed builtin consuming
   builtin-opens e = record {
-    same = λ tv expr ks. (reads _ (came-read holding-consumed.plain (g.run tv ks) e)).same;
+    same = λ tv expr ks. (reads _ (came-consumed BaseToken.ParenLeft g e tv ks)).same;
     sized = λ tv ks z. past-consumed _ g e refl z;
   }
 
-  pub builtin-refused : (r : Parsed) → o ≡ Wrong r → Opens (calling name.0) tk name.0 c k (Refused r)
+  pub builtin-refused : {x : ParsingError} → o ≡ Err x → Opens (calling name.0) tk name.0 c k (Refused x)
   unfolding Opens calling builtin consuming
-  builtin-refused r e tv expr ks = hands_on _ stays (held holding-consumed (g.run tv ks) e)
+  builtin-refused e tv expr ks = hands_on _ stays (told (g.run tv ks) e)
 
 -- after an ampersand or a pipe
-module _ {tk : List ℕ} (start : ℕ) {c k : ℕ} {a : Address} (g : Quiet addressed (addressing start) tk c k a) where
+module _ {tk : List ℕ} (start : ℕ) {c k : ℕ} {a : ParseResult (Read Address)}
+    (g : Quiet addressed (addressing start) tk c k a) where
   pub pointer-opens :
-      {depth : ℕ} {name p : TokenId} {j : ℕ} → a ≡ At depth name p j →
-      Opens (pointing start) tk start c k (Reference p j true depth name)
+      {v : Read Address} → a ≡ Ok v →
+      Opens (pointing start) tk start c k (Reference v.cursor v.count true v.value.depth v.value.name)
   unfolding Opens pointing referred pointer addressing
   pointer-opens e = record {
-    same = λ tv expr ks. (reads _ (came-read holding-addressed.plain (g.run tv ks) e)).same;
+    same = λ tv expr ks. (reads _ (came-address (g.run tv ks) e)).same;
     sized = λ tv ks z. past-address tk tv start ks g e z;
   }
 
-  pub pointer-refused : (r : Parsed) → a ≡ NoName r → Opens (pointing start) tk start c k (Refused r)
+  pub pointer-refused : {x : ParsingError} → a ≡ Err x → Opens (pointing start) tk start c k (Refused x)
   unfolding Opens pointing pointer addressing
-  pointer-refused r e tv expr ks = hands_on _ stays (held holding-addressed (g.run tv ks) e)
+  pointer-refused e tv expr ks = hands_on _ stays (told (g.run tv ks) e)
 
-module _ {tk : List ℕ} {c k : ℕ} {a : Address} (g : Quiet addressed (addressing c) tk c k a) where
+module _ {tk : List ℕ} {c k : ℕ} {a : ParseResult (Read Address)} (g : Quiet addressed (addressing c) tk c k a) where
   pub pipe-opens :
-      {depth : ℕ} {name p : TokenId} {j : ℕ} → a ≡ At depth name p j →
-      Opens (primary_or true) tk c c k (Reference p j false 0 name)
+      {v : Read Address} → a ≡ Ok v →
+      Opens (primary_or true) tk c c k (Reference v.cursor v.count false 0 v.value.name)
   unfolding Opens primary_or referred reference addressing
   pipe-opens e = record {
-    same = λ tv expr ks. (at_here _ then reads _ (came-read holding-addressed.plain (g.run tv ks) e)).same;
+    same = λ tv expr ks. (at_here _ then reads _ (came-address (g.run tv ks) e)).same;
     sized = λ tv ks z. past-address tk tv c ks g e z;
   }
 
-  pub pipe-refused : (r : Parsed) → a ≡ NoName r → Opens (primary_or true) tk c c k (Refused r)
+  pub pipe-refused : {x : ParsingError} → a ≡ Err x → Opens (primary_or true) tk c c k (Refused x)
   unfolding Opens primary_or reference addressing
-  pipe-refused r e tv expr ks = hands_on _ (at_here _) (held holding-addressed (g.run tv ks) e)
+  pipe-refused e tv expr ks = hands_on _ (at_here _) (told (g.run tv ks) e)
 
 -- the primaries that hold a name or an expression, by their first token
 pub data Begins (start : ℕ) : ℕ → Holds → Type 0 where
@@ -197,11 +195,11 @@ module _ (tk : List ℕ) (c t k : ℕ) (peeked : t ≡ kind_in tk c) where
   unfolding Starts Opens primary_or
   opened b e (Items p j owner) h = onward b e h
   opened b e (Fields p j name) h = onward b e h
-  opened b e (Reference p j isPointer depth name) h = onward b e h
+  opened b e (Reference p j is_pointer depth name) h = onward b e h
   opened b e (Name p j) h = onward b e h
   opened b e (Group p j) h = onward b e h
   opened b e (Literal u) h = absurd h
-  opened b e (Refused r) h = λ tv expr ks. shows (begins b e tv expr) (h tv expr ks)
+  opened b e (Refused x) h = λ tv expr ks. shows (begins b e tv expr) (h tv expr ks)
 
   module _ {piped : Bool} (not-piped : piped ≡ false) where
     pub primary-opens :
@@ -236,60 +234,18 @@ module _ (tk : List ℕ) (c t k : ℕ) (peeked : t ≡ kind_in tk c) where
       not-piped,
     )
 
-piped-opens : (tk : List ℕ) (c k : ℕ) (r : Opening) → Opens (primary_or true) tk c c k r → Starts true tk c k r
+piped-opens :
+    (tk : List ℕ) (c k : ℕ) (r : Opening) → Opens (primary_or true) tk c c k r → Starts true tk c k r
 unfolding Starts Opens
 piped-opens tk c k (Items p j owner) h = h
 piped-opens tk c k (Fields p j name) h = h
-piped-opens tk c k (Reference p j isPointer depth name) h = h
+piped-opens tk c k (Reference p j is_pointer depth name) h = h
 piped-opens tk c k (Name p j) h = h
 piped-opens tk c k (Group p j) h = h
 piped-opens tk c k (Literal u) h = absurd h
-piped-opens tk c k (Refused r) h = h
+piped-opens tk c k (Refused x) h = h
 
 pub reference-opens :
-    (tk : List ℕ) (c k : ℕ) {piped : Bool} → piped ≡ true → (r : Opening) → Opens (primary_or true) tk c c k r →
-    Starts piped tk c k r
+    (tk : List ℕ) (c k : ℕ) {piped : Bool} → piped ≡ true → (r : Opening) →
+    Opens (primary_or true) tk c c k r → Starts piped tk c k r
 reference-opens tk c k e r h = rw e (piped-opens tk c k r h)
-
--- what an opening holds fits: an owner, a name, a depth and a name, or nothing
-module _ (p : TokenId) (k : ℕ) where
-  pub call_fits : {name : TokenId} {b : ℕ} → name.0 ≤ Limit.Load → b ≤ Limit.Load → Fits (Items p k (Call name b))
-  unfolding Fits Small
-  call_fits h g = (h, g)
-
-  pub elements-fit : Fits (Items p k Elements)
-  unfolding Fits Small
-  elements-fit = tt
-
-  pub fields_fit : {name : TokenId} → name.0 ≤ Limit.Load → Fits (Fields p k name)
-  unfolding Fits
-  fields_fit h = h
-
-  pub steps-fit : {name : TokenId} → name.0 ≤ Limit.Load → Fits (Reference p k false 0 name)
-  unfolding Fits
-  steps-fit h = (omega arith, h)
-
-  pub name-fits : Fits (Name p k)
-  unfolding Fits
-  name-fits = tt
-
-  pub group-fits : Fits (Group p k)
-  unfolding Fits
-  group-fits = tt
-
-module _ {a : Address} (h : Near a) {depth : ℕ} {name p : TokenId} {j : ℕ} (e : a ≡ At depth name p j) where
-  pub pointer-fits : Fits (Reference p j true depth name)
-  unfolding Fits Near
-  pointer-fits = rw e at h
-
-  pub pipe-fits : Fits (Reference p j false 0 name)
-  unfolding Fits Near
-  pipe-fits = let (_, x) = rw e at h in (omega arith, x)
-
-pub literal-fits : (t : ℕ) → Fits (Literal t)
-unfolding Fits
-literal-fits t = tt
-
-pub refused-fits : (r : Parsed) → Fits (Refused r)
-unfolding Fits
-refused-fits r = tt

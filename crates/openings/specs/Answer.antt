@@ -1,5 +1,5 @@
 -- The answers of the code as the rules give them.
-use Rattle.std.specs.Prelude.{ℕ, ◌≤◌, Bool, false, List, ◌≡◌}
+use Rattle.std.specs.Prelude.{ℕ, ◌≤◌, Bool, false, List, ◌≡◌, Err}
 use Rattle.codes.specs.Answer.{row}
 use Rattle.codes.specs.Words.{Gives, Sized, nodes}
 use Rattle.tokens.specs.Answer.{kind_in}
@@ -26,9 +26,9 @@ listed owner row expr = items words row expr owner
 
 -- a name that is taken, and its steps; after a pointer, `..` and an expression may follow
 unfoldable pub referred : ℕ → ℕ → ℕ → Bool → Holds
-referred start depth name isPointer row expr =
+referred start depth name is_pointer row expr =
     let reference = stepped words row expr start depth name in
-    pick isPointer (reference >>= advanced words row expr) reference
+    pick is_pointer (reference >>= advanced words row expr) reference
 
 unfoldable pub alone : ℕ → Holds
 alone name row expr = name_alone words name
@@ -70,34 +70,28 @@ pub record Plain (kinds : List ℕ) (c t : ℕ) : Type 0 where
 unfoldable pub Opens : Holds → List ℕ → ℕ → ℕ → ℕ → Opening → Type 0
 Opens m kinds start c count (Items p j owner) = Onward m kinds c count (listed (owner_of owner)) p.0 j
 Opens m kinds start c count (Fields p j name) = Onward m kinds c count (listed (structural name.0)) p.0 j
-Opens m kinds start c count (Reference p j isPointer depth name) =
-    Onward m kinds c count (referred start depth name.0 isPointer) p.0 j
+Opens m kinds start c count (Reference p j is_pointer depth name) =
+    Onward m kinds c count (referred start depth name.0 is_pointer) p.0 j
 Opens m kinds start c count (Name p j) = Onward m kinds c count (alone start) p.0 j
 Opens m kinds start c count (Group p j) = Onward m kinds c count grouped p.0 j
 Opens m kinds start c count (Literal t) = ⊥
-Opens m kinds start c count (Refused r) =
+Opens m kinds start c count (Refused e) =
     (types : List ℕ) (expr : Rule Words ℕ) (ks : List ℕ) →
-    Gives (m (row kinds types) expr) c (nodes ks count) r ks
+    Gives (m (row kinds types) expr) c (nodes ks count) (Err e) ks
 
 -- The same of a primary, or of a reference after a pipe: but a literal is read from the cursor on. Which opening is
 -- answered is free where the rules go on alike from two: a name without steps is a name alone, or a reference with no
 -- ampersand; a token that begins no primary is left to the literals, or refused.
 unfoldable pub Starts : Bool → List ℕ → ℕ → ℕ → Opening → Type 0
 Starts piped kinds c count (Literal t) = Plain kinds c t × (piped ≡ false)
-Starts piped kinds c count (Items p j owner) = Opens (primary_or piped) kinds c c count (Items p j owner)
-Starts piped kinds c count (Fields p j name) = Opens (primary_or piped) kinds c c count (Fields p j name)
-Starts piped kinds c count (Reference p j isPointer depth name) =
-    Opens (primary_or piped) kinds c c count (Reference p j isPointer depth name)
-Starts piped kinds c count (Name p j) = Opens (primary_or piped) kinds c c count (Name p j)
-Starts piped kinds c count (Group p j) = Opens (primary_or piped) kinds c c count (Group p j)
-Starts piped kinds c count (Refused r) = Opens (primary_or piped) kinds c c count (Refused r)
+Starts piped kinds c count o = Opens (primary_or piped) kinds c c count o
 
 -- what an opening holds fits the words that it becomes
-unfoldable pub Fits : Opening → Type 0
+abbrev pub Fits : Opening → Type 0
 Fits (Items p j owner) = Small owner
 Fits (Fields p j name) = name.0 ≤ Limit.Load
-Fits (Reference p j isPointer depth name) = (depth ≤ Limit.Load) × (name.0 ≤ Limit.Load)
+Fits (Reference p j is_pointer depth name) = (depth ≤ Limit.Load) × (name.0 ≤ Limit.Load)
 Fits (Name p j) = Unit {0}
 Fits (Group p j) = Unit {0}
 Fits (Literal t) = Unit {0}
-Fits (Refused r) = Unit {0}
+Fits (Refused e) = Unit {0}

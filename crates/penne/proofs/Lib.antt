@@ -1,5 +1,4 @@
 pub mod Promises
-pub mod Splitting
 pub mod Entries
 pub mod Words
 pub mod Stars

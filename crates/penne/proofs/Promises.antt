@@ -8,19 +8,20 @@ use Prim.Native.Nat.{ℕ, ◌≤◌, ◌<◌}
 use native.Mathlib.Omega.{arith}
 use lib.ListN.{length, get_or}
 use lib.Seq.{ext_get_or}
-use Rattle.codes.specs.declared.Parsed.{Parsed}
-use Rattle.codes.specs.declared.Parsed.TheVariants.{Node, Refused}
+use Rattle.std.specs.Prelude.{Ok, Err, IsErrAnd}
+use Rattle.std.proofs.lemmas.Result.{err_from_is_err_and}
 use Rattle.codes.specs.declared.NodeId.{NodeId}
-use Rattle.codes.specs.declared.TokenId.{TokenId}
-use Rattle.codes.specs.Answer.{Gives, answer, parsed, nodes, row, refusal}
+use Rattle.codes.specs.declared.ParsingError.{ParsingError}
+use Rattle.codes.specs.declared.Read.{Read}
+use Rattle.codes.specs.Answer.{ParseResult, Gives, answer, count_of, parsed, nodes, row, refusal}
 use Rattle.codes.specs.Words as Core
-use Rattle.codes.proofs.Onto.{told-read, told-refused, plain-parsed}
-use Rattle.checks.specs.declared.Checked.{Checked}
-use Rattle.checks.specs.declared.Checked.TheVariants.{Passed, Failed}
-use Rattle.checks.specs.Answer.{check_of}
+use Rattle.codes.proofs.Onto.{told-read, plain-parsed}
+use Rattle.checks.specs.declared.Failed.{Failed}
+use Rattle.checks.specs.Answer.{Checked, check_of}
 use Rattle.checks.specs.Checks.{Check}
 use Rattle.checks.specs.Checks.{checked}
-use Rattle.penne.specs.Promise.{count_of, cursor_of, Accepted, Refuses, Promise}
+use Rattle.penne.specs.Answer.{passed}
+use Rattle.penne.specs.Promise.{Parsed, cursor_of, Accepted, Refuses, Promise}
 use Rattle.rules.specs.Codes.Refusal as Refusal
 use Rattle.rules.specs.Reading.{Rule, Result, ok, no}
 use Rattle.rules.specs.Trees.{Tree}
@@ -38,9 +39,12 @@ pub counted : (res : Result ℕ) (p k : ℕ) → count_of (answer parsed res p k
 counted (ok a) p k = refl
 counted (no n x y) p k = refl
 
-pub refused-count :
-    {r : Parsed} {n : ℕ} {p : TokenId} {k : ℕ} {x y : TokenId} → r ≡ Refused n p k x y → k ≡ count_of r
-refused-count e = rw e refl
+-- the result that a refusal tells of
+told-refused :
+    {e : ParsingError} (q : Result ℕ) (p k : ℕ) → Err e ≡ answer parsed q p k →
+    (q ≡ no e.number e.start.0 e.end.0) × (p ≡ e.cursor.0)
+told-refused (ok a) p k h = absurd cc
+told-refused {e} (no n x y) p k h = let w : e ≡ refusal n x y p k = cc in rw w (refl, refl)
 
 -- a result that is a refusal has its place
 abbrev InPlace : ℕ → Nodes → Result ℕ → ℕ → ℕ → Type 0
@@ -49,21 +53,48 @@ InPlace c o (no n x y) p k = Placed c o n x y p k
 
 told-placed :
     (c : ℕ) (o : Nodes) (q : Result ℕ) (p k : ℕ) → InPlace c o q p k → {r : Parsed} → r ≡ answer parsed q p k →
-    (n : ℕ) (x y p' : TokenId) (j : ℕ) → r ≡ Refused n p' j x y → Placed c o n x.0 y.0 p'.0 j
-told-placed c o q p k h e n x y p' j d =
-    let (i, v, l) = told-refused plain-parsed q p k (sym d ∙ e) in
-    rw (← v, l) (subst (λ (q : Result ℕ). InPlace c o q p k) i h)
+    (e : ParsingError) → r ≡ Err e → Placed c o e.number e.start.0 e.end.0 e.cursor.0 e.count
+told-placed c o (ok a) p k h d e g = let z = sym g ∙ d in absurd cc
+told-placed c o (no n x y) p k h d e g =
+    let z = sym g ∙ d in
+    let w : refusal n x y p k ≡ e = cc in
+    subst (λ (e : ParsingError). Placed c o e.number e.start.0 e.end.0 e.cursor.0 e.count) w h
 
--- an entry's promise where its check refused
+-- the check of an entry, by what it is answered
+module _ (t : Checked) (c k : ℕ) {p : ParseResult (Unit {0})} (h : p ≡ passed t c k) where
+  pub check-passed : {u : Unit {0}} → p ≡ Ok u → t ≡ Ok u
+  check-passed {u} g = go t (sym h ∙ g)
+    where
+      go : (t : Checked) → passed t c k ≡ Ok u → t ≡ Ok u
+      go (Ok v) z = refl
+      go (Err f) z = absurd cc
+
+  check-failed :
+      {e : ParsingError} → p ≡ Err e → (f : Failed) × (t ≡ Err f) × (e ≡ refusal f.number f.start.0 f.start.0 c k)
+  check-failed {e} g = go t (sym h ∙ g)
+    where
+      go :
+          (t : Checked) → passed t c k ≡ Err e →
+          (f : Failed) × (t ≡ Err f) × (e ≡ refusal f.number f.start.0 f.start.0 c k)
+      go (Ok v) z = absurd cc
+      go (Err f) z = (f, refl, cc)
+
+-- an entry's promise where its check refused: the exit of the `?` on its answer
 pub check-refused :
-    {tokens : ℕ} {m : Rule Nodes ℕ} {q : Rule (Unit {0}) Tree} {e : Check} → Listed e →
-    (c k : ℕ) {ns ls : List ℕ} {t : Checked} → check_of t ≡ e → {n : ℕ} {x : TokenId} → t ≡ Failed n x →
-    {r : Parsed} → r ≡ refusal n x.0 x.0 c k → Promise tokens e m q c (nodes ns ls k) r ns ls
+    {tokens : ℕ} {m : Rule Nodes ℕ} {q : Rule (Unit {0}) Tree} {e : Check} → Listed e → {ns ls : List ℕ} →
+    (t : Checked) (c k : ℕ) → check_of t ≡ e → {p : ParseResult (Unit {0})} → p ≡ passed t c k → {w : ParsingError} →
+    p ≡ Err w →
+    {r : Parsed} → IsErrAnd r (λ d. d ≡ w) → Promise tokens e m q c (nodes ns ls k) r ns ls
 unfolding checked
-check-refused {e = e} listed c k {ns} {ls} f {n} {x} g h =
-    let w : some (n, x.0) ≡ e = sym (ap check_of g) ∙ f in
-    let z : Placed c (nodes ns ls k) n x.0 x.0 c k = rw (← w) at (listed.at c (nodes ns ls k)) in
-    rw (← w, h) record {
+check-refused {e = e} listed {ns} {ls} t c k h f g {r} i =
+    let (b, d, a) = check-failed t c k f g in
+    let (v, j, l) = err_from_is_err_and r i in
+    let n = b.number in
+    let x = b.start.0 in
+    let w : some (n, x) ≡ e = sym (ap check_of d) ∙ h in
+    let s : r ≡ Err (refusal n x x c k) = j ∙ ap Err (l ∙ a) in
+    let z : Placed c (nodes ns ls k) n x x c k = rw (← w) at (listed.at c (nodes ns ls k)) in
+    rw (← w, s) record {
       equal = record { reply = refl; kinds = refl; loads = refl };
       frame = record {
         grew = omega arith;
@@ -73,10 +104,10 @@ check-refused {e = e} listed c k {ns} {ls} f {n} {x} g h =
         below = λ i h. (refl, refl);
         above = λ i h. (refl, refl);
       };
-      accepted = λ root cursor count d. let z : ◌≡◌ {A = ℕ} 0 1 = cc in absurd (omega arith);
-      refused = λ d n x y p j r v. let z : ◌≡◌ {A = ℕ} 0 1 = cc in absurd (omega arith);
-      placed = told-placed c (nodes ns ls k) (no n x.0 x.0) c k z refl;
-      within = λ d. let z : ◌≡◌ {A = ℕ} 0 1 = cc in absurd (omega arith);
+      accepted = λ a d. absurd cc;
+      refused = λ d. absurd cc;
+      placed = told-placed c (nodes ns ls k) (no n x x) c k z refl;
+      within = λ d. absurd cc;
     }
 
 -- and where it passed
@@ -96,20 +127,19 @@ module _ {tk tv : List ℕ} {m : Rule Nodes ℕ} {q : Rule (Unit {0}) Tree} (D :
     framed = rw (← left-columns) (D.framed o c sizes)
 
     accepts :
-        (root : NodeId) (cursor : TokenId) (count : ℕ) → r ≡ Node root cursor count →
-        Accepted (length tk) q c o.count (nodes ks' ls' count) root.0 cursor.0
-    accepts root cursor count h =
+        (v : Read NodeId) → r ≡ Ok v →
+        Accepted (length tk) q c o.count (nodes ks' ls' v.count) v.value.0 v.cursor.0
+    accepts v h =
         let (i, j, n) = told-read plain-parsed (m c o).result (m c o).cursor (m c o).state.count (sym h ∙ d.reply) in
-        let l : (m c o).state ≡ nodes ks' ls' count = rw (d.kinds, d.loads, n) refl in
-        let a = D.accepted o c root.0 sizes i in
+        let l : (m c o).state ≡ nodes ks' ls' v.count = rw (d.kinds, d.loads, n) refl in
+        let a = D.accepted o c v.value.0 sizes i in
         record {
           tree = a.tree;
           read = a.same;
           taken = a.cursor ∙ j;
-          whole = subst (λ (s : Nodes). Whole s o.count root.0 a.tree) l a.whole;
+          whole = subst (λ (s : Nodes). Whole s o.count v.value.0 a.tree) l a.whole;
           last = a.last ∙ ap (λ (s : Nodes). s.count) l;
-          inside =
-              subst (λ (n : ℕ). n < length tk) j (D.before_end o c root.0 sizes y.closed y.inside i);
+          inside = subst (λ (n : ℕ). n < length tk) j (D.before_end o c v.value.0 sizes y.closed y.inside i);
         }
 
     stops : (res : Result ℕ) → (m c o).result ≡ res → cursor_of r ≤ length tk
@@ -121,11 +151,11 @@ module _ {tk tv : List ℕ} {m : Rule Nodes ℕ} {q : Rule (Unit {0}) Tree} (D :
         subst (λ (p : Parsed). cursor_of p ≤ length tk) (sym d.reply) (rw i b)
 
     refuses :
-        (n : ℕ) (x y p : TokenId) (j : ℕ) → r ≡ Refused n p j x y → n ≢ Refusal.NoSlot →
-        Refuses q c n x.0 y.0 p.0
-    refuses n x y p j h v =
-        let (i, k, _) = told-refused plain-parsed (m c o).result (m c o).cursor (m c o).state.count (sym h ∙ d.reply) in
-        let a = D.refused o c n x.0 y.0 sizes i v in
+        (e : ParsingError) → r ≡ Err e → e.number ≢ Refusal.NoSlot →
+        Refuses q c e.number e.start.0 e.end.0 e.cursor.0
+    refuses e h v =
+        let (i, k) = told-refused (m c o).result (m c o).cursor (m c o).state.count (sym h ∙ d.reply) in
+        let a = D.refused o c e.number e.start.0 e.end.0 sizes i v in
         record { refused = a.0; at = a.1 ∙ k }
 
     in_place : (res : Result ℕ) → (m c o).result ≡ res → InPlace c o res (m c o).cursor (m c o).state.count
@@ -133,7 +163,7 @@ module _ {tk tv : List ℕ} {m : Rule Nodes ℕ} {q : Rule (Unit {0}) Tree} (D :
     in_place (no n x w) i = D.placed o c n x w sizes i
 
     pub rule-followed :
-        {t : Checked} {e : Check} → check_of t ≡ e → t ≡ Passed → Promise (length tk) e m q c o r ks' ls'
+        {t : Checked} {e : Check} → check_of t ≡ e → {u : Unit {0}} → t ≡ Ok u → Promise (length tk) e m q c o r ks' ls'
     unfolding checked
     rule-followed f g =
         let w : none ≡ _ = sym (ap check_of g) ∙ f in

@@ -2,14 +2,13 @@
 use mathlib.Core.Path.{◌≡◌, sym, ◌∙◌}
 use mathlib.Core.List.{List}
 use Prim.Native.Nat.{ℕ}
-use Rattle.codes.specs.declared.Parsed.{Parsed}
 use Rattle.codes.specs.Answer.{Gives}
 use Rattle.rules.specs.Reading.{Rule, Row}
 use Rattle.rules.specs.Columns.{Nodes}
 use lib.ListN.{length}
 use Rattle.rules.specs.Trees.{Tree}
 use Rattle.checks.specs.Checks.{Check, input_check, declaration_check, word_declaration_check}
-use Rattle.penne.specs.Promise.{Promise, Expression, Type', Constant, Struct, Word}
+use Rattle.penne.specs.Promise.{Parsed, Promise, Expression, Type', Constant, Struct, Word}
 use Rattle.penne.specs.Words.{Transfers}
 
 once :

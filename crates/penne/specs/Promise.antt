@@ -1,11 +1,10 @@
 -- What each public entry promises, for every input.
-use Rattle.std.specs.Prelude.{ℕ, ◌+◌, ◌≤◌, ◌<◌, ◌≢◌, ◌≡◌, List, length}
+use Rattle.std.specs.Prelude.{ℕ, ◌+◌, ◌≤◌, ◌<◌, ◌≢◌, ◌≡◌, List, length, Ok, Err}
 use Rattle.std.proofs.Math.Option.{none}
-use Rattle.codes.specs.declared.Parsed.{Parsed}
-use Rattle.codes.specs.declared.Parsed.TheVariants.{Node, Refused}
 use Rattle.codes.specs.declared.NodeId.{NodeId}
-use Rattle.codes.specs.declared.TokenId.{TokenId}
-use Rattle.codes.specs.Answer.{Gives, nodes}
+use Rattle.codes.specs.declared.ParsingError.{ParsingError}
+use Rattle.codes.specs.declared.Read.{Read}
+use Rattle.codes.specs.Answer.{ParseResult, Gives, count_of, nodes}
 use Rattle.rules.specs.Codes.Refusal as Refusal
 use Rattle.rules.specs.Codes.Limit as Limit
 use Rattle.rules.specs.Reading.{Rule, Row, ok, no}
@@ -19,15 +18,14 @@ use Rattle.rules.specs.Expressions.{expression}
 use Rattle.rules.specs.Declarations.{constant, struct, word}
 use Rattle.checks.specs.Checks.{Check, checked, input_check, declaration_check, word_declaration_check}
 
--- the node count of a reply
-abbrev pub count_of : Parsed → ℕ
-count_of (Node root cursor count) = count
-count_of (Refused number cursor count start end) = count
+-- A reply: the root node and the state where the entry accepts, and else the refusal.
+abbrev pub Parsed : Type 0
+Parsed = ParseResult (Read NodeId)
 
--- and its cursor
+-- the cursor of a reply
 abbrev pub cursor_of : Parsed → ℕ
-cursor_of (Node root cursor count) = cursor.0
-cursor_of (Refused number cursor count start end) = cursor.0
+cursor_of (Ok read) = read.cursor.0
+cursor_of (Err refusal) = refusal.cursor.0
 
 -- Demand 3 of an accepted parse in a row of so many tokens: the rule q with trees, from the given cursor c, reads the
 -- tree that stands along the ways from the root in the columns s at exit, and takes the same tokens.
@@ -54,16 +52,16 @@ pub record Promise (tokens : ℕ) (e : Check) (m : Rule Nodes ℕ) (q : Rule (Un
   -- no node below the given count changed, and none from the replied count on
   pub frame : Frame o (nodes ks ls (count_of r))
   pub accepted :
-      (root : NodeId) (cursor : TokenId) (count : ℕ) → r ≡ Node root cursor count →
-      Accepted tokens q c o.count (nodes ks ls count) root.0 cursor.0
+      (read : Read NodeId) → r ≡ Ok read →
+      Accepted tokens q c o.count (nodes ks ls read.count) read.value.0 read.cursor.0
   -- a refusal while parsing, unless the slots are used up
   pub refused :
-      e ≡ none → (number : ℕ) (start end cursor : TokenId) (count : ℕ) → r ≡ Refused number cursor count start end →
-      number ≢ Refusal.NoSlot → Refuses q c number start.0 end.0 cursor.0
+      e ≡ none → (refusal : ParsingError) → r ≡ Err refusal → refusal.number ≢ Refusal.NoSlot →
+      Refuses q c refusal.number refusal.start.0 refusal.end.0 refusal.cursor.0
   -- a refusal has a number of document 01's list, and its start, end, cursor and count go together as that wants
   pub placed :
-      (number : ℕ) (start end cursor : TokenId) (count : ℕ) → r ≡ Refused number cursor count start end →
-      Placed c o number start.0 end.0 cursor.0 count
+      (refusal : ParsingError) → r ≡ Err refusal →
+      Placed c o refusal.number refusal.start.0 refusal.end.0 refusal.cursor.0 refusal.count
   -- after a parse the cursor is at most the token count
   pub within : e ≡ none → cursor_of r ≤ tokens
 

@@ -1,12 +1,11 @@
 -- What each public entry with a word a node promises, for every input: what the entry with columns promises, of the
 -- columns that the words unpack to. Unpacking loses nothing of a word (rules, Words: Exact).
 use Rattle.std.specs.Prelude.{ℕ, ◌≡◌, List, map}
-use Rattle.codes.specs.declared.Parsed.{Parsed}
 use Rattle.codes.specs.Answer.{nodes}
 use Rattle.rules.specs.Reading.{Row}
 use Rattle.rules.specs.Columns.{Nodes}
 use Rattle.rules.specs.Words.{word_kind, word_load}
-use Rattle.penne.specs.Promise.{Expression, Type', Constant, Struct, Word}
+use Rattle.penne.specs.Promise.{Parsed, Expression, Type', Constant, Struct, Word}
 
 -- a promise on columns, of words: those before and the count, the reply, and those after
 abbrev pub Unpacked : (Nodes → Parsed → List ℕ → List ℕ → Type 0) → List ℕ → ℕ → Parsed → List ℕ → Type 0

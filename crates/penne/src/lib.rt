@@ -3,61 +3,44 @@
 #![tactic(auto)]
 
 ghost use Rattle.std.specs.Prelude.{◌≡◌};
-ghost use Rattle.codes.specs.Answer.{row, nodes, refusal};
-ghost use Rattle.penne.specs.Answer.{Splits, Split};
-ghost use Rattle.penne.specs.Promise.{count_of, Expression, Type', Constant, Struct, Word};
+ghost use Rattle.codes.specs.Answer.{row, nodes};
+ghost use Rattle.penne.specs.Answer.{Splits, Split, passed};
+ghost use Rattle.penne.specs.Promise.{Expression, Type', Constant, Struct, Word};
 ghost use Rattle.penne.specs.Words.{ExpressionWords, TypeWords, ConstantWords, StructWords, WordWords};
 
 use checks::{Checked, check_declaration, check_input, check_word_declaration};
-use codes::{Limit, Parsed, TokenId};
+use codes::{Limit, ParseResult, Parsed, ParsingError, TokenId, node_count};
+use declarations::Declaration;
+use tokens::Row;
 
-// The refusal of a check: the cursor and the count are the given ones.
-fn refused(number: u32, start: TokenId, cursor: TokenId, count: u32) -> Parsed
-    ensures { result ≡ refusal number start.0 start.0 cursor.0 count }
+// A check's answer as a reader's. The refusal of a check that failed has the given cursor and count.
+fn passed(checked: Checked, cursor: TokenId, count: u32) -> ParseResult<()>
+    ensures { result ≡ passed checked cursor.0 count }
 {
-    Parsed::Refused {
-        number,
-        start,
-        end: start,
+    checked.map_err(|failed| ParsingError {
+        number: failed.number,
+        start: failed.start,
+        end: failed.start,
         cursor,
         count,
-    }
+    })
 }
 
-// The node count of a reply.
-fn count_of(reply: Parsed) -> u32
-    ensures { result ≡ count_of reply }
-{
-    match reply {
-        Parsed::Node {
-            root: _,
-            cursor: _,
-            count,
-        } => count,
-        Parsed::Refused {
-            number: _,
-            cursor: _,
-            count,
-            start: _,
-            end: _,
-        } => count,
-    }
-}
-
-// The words from one node up to another are split into kinds and loads, the loads in place.
+// The words from one node up to another are split into kinds and loads, the loads in place. The loop counts places and
+// does not zip the columns, since of what is written through a zipped iterator a proof knows no value.
 fn split(node_kinds: &mut [u8], node_loads: &mut [u32], first: u32, end: u32)
     requires { Splits first end node_kinds.old node_loads.old }
     ensures { Split first end node_kinds.old node_loads.old node_kinds.new node_loads.new }
 {
-    let last = end as usize;
-    let mut place = first as usize;
-    while place < last {
+    for place in first as usize..end as usize {
         let word = node_loads[place];
         node_kinds[place] = codes::word_kind(word);
         node_loads[place] = codes::word_load(word);
-        place = place + 1;
     }
 }
+
+// An entry with columns and its twin with words share the check and the reader, a call each. One function for both that
+// took the reader as a closure would save no line, and its contract would have to speak of that closure's calls.
 
 // An expression from the cursor on.
 pub fn parse_expression(
@@ -68,24 +51,17 @@ pub fn parse_expression(
     node_loads: &mut [u32],
     count: u32,
 ) -> Parsed
-    ensures { Expression (row kinds.now types.now) cursor.0 (nodes node_kinds.old node_loads.old count) result node_kinds.new node_loads.new }
+    ensures { Expression (row kinds.now types.now) cursor.0
+        (nodes node_kinds.old node_loads.old count) result node_kinds.new node_loads.new }
 {
+    let row = Row { kinds, types };
     let slots = node_kinds.len();
     let loads = node_loads.len();
-    match check_input(kinds, types, cursor, slots, loads, count) {
-        Checked::Passed => {
-            let unused = Limit::Nesting;
-            let reply = expressions::parse_expression(
-                kinds, types, node_loads, cursor, count, unused,
-            );
-            split(node_kinds, node_loads, count, count_of(reply));
-            reply
-        }
-        Checked::Failed {
-            number,
-            start: place,
-        } => refused(number, place, cursor, count),
-    }
+    let checked = check_input(&row, cursor, slots, loads, count);
+    passed(checked, cursor, count)?;
+    let parsed = expressions::parse_expression(&row, node_loads, cursor, count, Limit::Nesting);
+    split(node_kinds, node_loads, count, node_count(parsed));
+    parsed
 }
 
 // A type from the cursor on.
@@ -97,22 +73,17 @@ pub fn parse_type(
     node_loads: &mut [u32],
     count: u32,
 ) -> Parsed
-    ensures { Type' (row kinds.now types.now) cursor.0 (nodes node_kinds.old node_loads.old count) result node_kinds.new node_loads.new }
+    ensures { Type' (row kinds.now types.now) cursor.0
+        (nodes node_kinds.old node_loads.old count) result node_kinds.new node_loads.new }
 {
+    let row = Row { kinds, types };
     let slots = node_kinds.len();
     let loads = node_loads.len();
-    match check_input(kinds, types, cursor, slots, loads, count) {
-        Checked::Passed => {
-            let unused = Limit::Nesting;
-            let reply = types::parse_type(kinds, types, node_loads, cursor, count, unused);
-            split(node_kinds, node_loads, count, count_of(reply));
-            reply
-        }
-        Checked::Failed {
-            number,
-            start: place,
-        } => refused(number, place, cursor, count),
-    }
+    let checked = check_input(&row, cursor, slots, loads, count);
+    passed(checked, cursor, count)?;
+    let parsed = types::parse_type(&row, node_loads, cursor, count, Limit::Nesting);
+    split(node_kinds, node_loads, count, node_count(parsed));
+    parsed
 }
 
 // A constant, from its name on. Its declaration, with these flags, begins at the token `start`.
@@ -126,24 +97,26 @@ pub fn parse_constant_declaration(
     start: TokenId,
     flags: u32,
 ) -> Parsed
-    ensures { Constant (row kinds.now types.now) cursor.0 (nodes node_kinds.old node_loads.old count) start.0 flags result node_kinds.new node_loads.new }
+    ensures { Constant (row kinds.now types.now) cursor.0
+        (nodes node_kinds.old node_loads.old count) start.0 flags
+        result node_kinds.new node_loads.new }
 {
+    let row = Row { kinds, types };
     let slots = node_kinds.len();
     let loads = node_loads.len();
-    match check_declaration(kinds, types, cursor, slots, loads, count, start, flags) {
-        Checked::Passed => {
-            let unused = Limit::Nesting;
-            let reply = declarations::parse_constant_declaration(
-                kinds, types, node_loads, cursor, count, unused, start, flags,
-            );
-            split(node_kinds, node_loads, count, count_of(reply));
-            reply
-        }
-        Checked::Failed {
-            number,
-            start: place,
-        } => refused(number, place, cursor, count),
-    }
+    let checked = check_declaration(&row, cursor, slots, loads, count, start, flags);
+    passed(checked, cursor, count)?;
+    let declaration = Declaration { start, flags };
+    let parsed = declarations::parse_constant_declaration(
+        &row,
+        node_loads,
+        cursor,
+        count,
+        Limit::Nesting,
+        declaration,
+    );
+    split(node_kinds, node_loads, count, node_count(parsed));
+    parsed
 }
 
 // A struct, from its name on. Its declaration, with these flags, begins at the token `start`.
@@ -157,24 +130,26 @@ pub fn parse_struct_declaration(
     start: TokenId,
     flags: u32,
 ) -> Parsed
-    ensures { Struct (row kinds.now types.now) cursor.0 (nodes node_kinds.old node_loads.old count) start.0 flags result node_kinds.new node_loads.new }
+    ensures { Struct (row kinds.now types.now) cursor.0
+        (nodes node_kinds.old node_loads.old count) start.0 flags
+        result node_kinds.new node_loads.new }
 {
+    let row = Row { kinds, types };
     let slots = node_kinds.len();
     let loads = node_loads.len();
-    match check_declaration(kinds, types, cursor, slots, loads, count, start, flags) {
-        Checked::Passed => {
-            let unused = Limit::Nesting;
-            let reply = declarations::parse_struct_declaration(
-                kinds, types, node_loads, cursor, count, unused, start, flags,
-            );
-            split(node_kinds, node_loads, count, count_of(reply));
-            reply
-        }
-        Checked::Failed {
-            number,
-            start: place,
-        } => refused(number, place, cursor, count),
-    }
+    let checked = check_declaration(&row, cursor, slots, loads, count, start, flags);
+    passed(checked, cursor, count)?;
+    let declaration = Declaration { start, flags };
+    let parsed = declarations::parse_struct_declaration(
+        &row,
+        node_loads,
+        cursor,
+        count,
+        Limit::Nesting,
+        declaration,
+    );
+    split(node_kinds, node_loads, count, node_count(parsed));
+    parsed
 }
 
 // A word, from its name on, by its declaring token. Its declaration, with these flags, begins at the token `start`.
@@ -189,13 +164,15 @@ pub fn parse_word_declaration(
     flags: u32,
     declaring_token: u8,
 ) -> Parsed
-    ensures { Word (row kinds.now types.now) cursor.0 (nodes node_kinds.old node_loads.old count) start.0 flags declaring_token result node_kinds.new node_loads.new }
+    ensures { Word (row kinds.now types.now) cursor.0
+        (nodes node_kinds.old node_loads.old count) start.0 flags declaring_token
+        result node_kinds.new node_loads.new }
 {
+    let row = Row { kinds, types };
     let slots = node_kinds.len();
     let loads = node_loads.len();
-    match check_word_declaration(
-        kinds,
-        types,
+    let checked = check_word_declaration(
+        &row,
         cursor,
         slots,
         loads,
@@ -203,28 +180,20 @@ pub fn parse_word_declaration(
         start,
         flags,
         declaring_token,
-    ) {
-        Checked::Passed => {
-            let unused = Limit::Nesting;
-            let reply = declarations::parse_word_declaration(
-                kinds,
-                types,
-                node_loads,
-                cursor,
-                count,
-                unused,
-                start,
-                flags,
-                declaring_token,
-            );
-            split(node_kinds, node_loads, count, count_of(reply));
-            reply
-        }
-        Checked::Failed {
-            number,
-            start: place,
-        } => refused(number, place, cursor, count),
-    }
+    );
+    passed(checked, cursor, count)?;
+    let declaration = Declaration { start, flags };
+    let parsed = declarations::parse_word_declaration(
+        &row,
+        node_loads,
+        cursor,
+        count,
+        Limit::Nesting,
+        declaration,
+        declaring_token,
+    );
+    split(node_kinds, node_loads, count, node_count(parsed));
+    parsed
 }
 
 // The same as parse_expression with a word a node.
@@ -235,19 +204,14 @@ pub fn parse_expression_words(
     node_words: &mut [u32],
     count: u32,
 ) -> Parsed
-    ensures { ExpressionWords (row kinds.now types.now) cursor.0 node_words.old count result node_words.new }
+    ensures { ExpressionWords (row kinds.now types.now) cursor.0
+        node_words.old count result node_words.new }
 {
+    let row = Row { kinds, types };
     let slots = node_words.len();
-    match check_input(kinds, types, cursor, slots, slots, count) {
-        Checked::Passed => {
-            let unused = Limit::Nesting;
-            expressions::parse_expression(kinds, types, node_words, cursor, count, unused)
-        }
-        Checked::Failed {
-            number,
-            start: place,
-        } => refused(number, place, cursor, count),
-    }
+    let checked = check_input(&row, cursor, slots, slots, count);
+    passed(checked, cursor, count)?;
+    expressions::parse_expression(&row, node_words, cursor, count, Limit::Nesting)
 }
 
 // The same as parse_type with a word a node.
@@ -258,19 +222,14 @@ pub fn parse_type_words(
     node_words: &mut [u32],
     count: u32,
 ) -> Parsed
-    ensures { TypeWords (row kinds.now types.now) cursor.0 node_words.old count result node_words.new }
+    ensures { TypeWords (row kinds.now types.now) cursor.0
+        node_words.old count result node_words.new }
 {
+    let row = Row { kinds, types };
     let slots = node_words.len();
-    match check_input(kinds, types, cursor, slots, slots, count) {
-        Checked::Passed => {
-            let unused = Limit::Nesting;
-            types::parse_type(kinds, types, node_words, cursor, count, unused)
-        }
-        Checked::Failed {
-            number,
-            start: place,
-        } => refused(number, place, cursor, count),
-    }
+    let checked = check_input(&row, cursor, slots, slots, count);
+    passed(checked, cursor, count)?;
+    types::parse_type(&row, node_words, cursor, count, Limit::Nesting)
 }
 
 // The same as parse_constant_declaration with a word a node.
@@ -283,21 +242,22 @@ pub fn parse_constant_declaration_words(
     start: TokenId,
     flags: u32,
 ) -> Parsed
-    ensures { ConstantWords (row kinds.now types.now) cursor.0 start.0 flags node_words.old count result node_words.new }
+    ensures { ConstantWords (row kinds.now types.now) cursor.0 start.0 flags
+        node_words.old count result node_words.new }
 {
+    let row = Row { kinds, types };
     let slots = node_words.len();
-    match check_declaration(kinds, types, cursor, slots, slots, count, start, flags) {
-        Checked::Passed => {
-            let unused = Limit::Nesting;
-            declarations::parse_constant_declaration(
-                kinds, types, node_words, cursor, count, unused, start, flags,
-            )
-        }
-        Checked::Failed {
-            number,
-            start: place,
-        } => refused(number, place, cursor, count),
-    }
+    let checked = check_declaration(&row, cursor, slots, slots, count, start, flags);
+    passed(checked, cursor, count)?;
+    let declaration = Declaration { start, flags };
+    declarations::parse_constant_declaration(
+        &row,
+        node_words,
+        cursor,
+        count,
+        Limit::Nesting,
+        declaration,
+    )
 }
 
 // The same as parse_struct_declaration with a word a node.
@@ -310,21 +270,22 @@ pub fn parse_struct_declaration_words(
     start: TokenId,
     flags: u32,
 ) -> Parsed
-    ensures { StructWords (row kinds.now types.now) cursor.0 start.0 flags node_words.old count result node_words.new }
+    ensures { StructWords (row kinds.now types.now) cursor.0 start.0 flags
+        node_words.old count result node_words.new }
 {
+    let row = Row { kinds, types };
     let slots = node_words.len();
-    match check_declaration(kinds, types, cursor, slots, slots, count, start, flags) {
-        Checked::Passed => {
-            let unused = Limit::Nesting;
-            declarations::parse_struct_declaration(
-                kinds, types, node_words, cursor, count, unused, start, flags,
-            )
-        }
-        Checked::Failed {
-            number,
-            start: place,
-        } => refused(number, place, cursor, count),
-    }
+    let checked = check_declaration(&row, cursor, slots, slots, count, start, flags);
+    passed(checked, cursor, count)?;
+    let declaration = Declaration { start, flags };
+    declarations::parse_struct_declaration(
+        &row,
+        node_words,
+        cursor,
+        count,
+        Limit::Nesting,
+        declaration,
+    )
 }
 
 // The same as parse_word_declaration with a word a node.
@@ -338,12 +299,13 @@ pub fn parse_word_declaration_words(
     flags: u32,
     declaring_token: u8,
 ) -> Parsed
-    ensures { WordWords (row kinds.now types.now) cursor.0 start.0 flags declaring_token node_words.old count result node_words.new }
+    ensures { WordWords (row kinds.now types.now) cursor.0 start.0 flags declaring_token
+        node_words.old count result node_words.new }
 {
+    let row = Row { kinds, types };
     let slots = node_words.len();
-    match check_word_declaration(
-        kinds,
-        types,
+    let checked = check_word_declaration(
+        &row,
         cursor,
         slots,
         slots,
@@ -351,24 +313,16 @@ pub fn parse_word_declaration_words(
         start,
         flags,
         declaring_token,
-    ) {
-        Checked::Passed => {
-            let unused = Limit::Nesting;
-            declarations::parse_word_declaration(
-                kinds,
-                types,
-                node_words,
-                cursor,
-                count,
-                unused,
-                start,
-                flags,
-                declaring_token,
-            )
-        }
-        Checked::Failed {
-            number,
-            start: place,
-        } => refused(number, place, cursor, count),
-    }
+    );
+    passed(checked, cursor, count)?;
+    let declaration = Declaration { start, flags };
+    declarations::parse_word_declaration(
+        &row,
+        node_words,
+        cursor,
+        count,
+        Limit::Nesting,
+        declaration,
+        declaring_token,
+    )
 }

@@ -1,7 +1,7 @@
 // The five entries of crate penne for programs in C and in Rust, which pass numbers and slices only, and the table of
 // parts. Each entry is lent a column `reply` and writes its reply into the first six places: see crate replies. Where the
 // column has fewer places nothing is read or written, and the result is false. Nothing is asked of the input, and nothing
-// is allocated.
+// is allocated. C calls each entry by its name, so each is written out.
 #![tactic(auto)]
 
 ghost use Rattle.std.specs.Prelude.{◌≡◌};
@@ -24,7 +24,11 @@ pub extern "C" fn penne_parse_expression(
     count: u32,
     reply: &mut [u32],
 ) -> bool
-    ensures { Replied written (λ p. Expression (row kinds.now types.now) cursor (nodes node_kinds.old node_loads.old count) p node_kinds.new node_loads.new) ((node_kinds.new ≡ node_kinds.old) × (node_loads.new ≡ node_loads.old)) reply.old result reply.new }
+    ensures { Replied written
+        (λ p. Expression (row kinds.now types.now) cursor
+        (nodes node_kinds.old node_loads.old count) p node_kinds.new node_loads.new)
+        ((node_kinds.new ≡ node_kinds.old) × (node_loads.new ≡ node_loads.old))
+        reply.old result reply.new }
 {
     if reply.len() < PLACES {
         return false;
@@ -52,7 +56,11 @@ pub extern "C" fn penne_parse_type(
     count: u32,
     reply: &mut [u32],
 ) -> bool
-    ensures { Replied written (λ p. Type' (row kinds.now types.now) cursor (nodes node_kinds.old node_loads.old count) p node_kinds.new node_loads.new) ((node_kinds.new ≡ node_kinds.old) × (node_loads.new ≡ node_loads.old)) reply.old result reply.new }
+    ensures { Replied written
+        (λ p. Type' (row kinds.now types.now) cursor
+        (nodes node_kinds.old node_loads.old count) p node_kinds.new node_loads.new)
+        ((node_kinds.new ≡ node_kinds.old) × (node_loads.new ≡ node_loads.old))
+        reply.old result reply.new }
 {
     if reply.len() < PLACES {
         return false;
@@ -75,7 +83,12 @@ pub extern "C" fn penne_parse_constant_declaration(
     flags: u32,
     reply: &mut [u32],
 ) -> bool
-    ensures { Replied written (λ p. Constant (row kinds.now types.now) cursor (nodes node_kinds.old node_loads.old count) start flags p node_kinds.new node_loads.new) ((node_kinds.new ≡ node_kinds.old) × (node_loads.new ≡ node_loads.old)) reply.old result reply.new }
+    ensures { Replied written
+        (λ p. Constant (row kinds.now types.now) cursor
+        (nodes node_kinds.old node_loads.old count) start flags
+        p node_kinds.new node_loads.new)
+        ((node_kinds.new ≡ node_kinds.old) × (node_loads.new ≡ node_loads.old))
+        reply.old result reply.new }
 {
     if reply.len() < PLACES {
         return false;
@@ -107,7 +120,12 @@ pub extern "C" fn penne_parse_struct_declaration(
     flags: u32,
     reply: &mut [u32],
 ) -> bool
-    ensures { Replied written (λ p. Struct (row kinds.now types.now) cursor (nodes node_kinds.old node_loads.old count) start flags p node_kinds.new node_loads.new) ((node_kinds.new ≡ node_kinds.old) × (node_loads.new ≡ node_loads.old)) reply.old result reply.new }
+    ensures { Replied written
+        (λ p. Struct (row kinds.now types.now) cursor
+        (nodes node_kinds.old node_loads.old count) start flags
+        p node_kinds.new node_loads.new)
+        ((node_kinds.new ≡ node_kinds.old) × (node_loads.new ≡ node_loads.old))
+        reply.old result reply.new }
 {
     if reply.len() < PLACES {
         return false;
@@ -140,7 +158,12 @@ pub extern "C" fn penne_parse_word_declaration(
     declaring_token: u8,
     reply: &mut [u32],
 ) -> bool
-    ensures { Replied written (λ p. Word (row kinds.now types.now) cursor (nodes node_kinds.old node_loads.old count) start flags declaring_token p node_kinds.new node_loads.new) ((node_kinds.new ≡ node_kinds.old) × (node_loads.new ≡ node_loads.old)) reply.old result reply.new }
+    ensures { Replied written
+        (λ p. Word (row kinds.now types.now) cursor
+        (nodes node_kinds.old node_loads.old count) start flags declaring_token
+        p node_kinds.new node_loads.new)
+        ((node_kinds.new ≡ node_kinds.old) × (node_loads.new ≡ node_loads.old))
+        reply.old result reply.new }
 {
     if reply.len() < PLACES {
         return false;

@@ -1,19 +1,20 @@
 -- What the tests of an input tell, and how the output follows from the parse.
-use Prim.Native.Nat.{ℕ, ◌+◌, ◌-◌, ◌*◌, ◌≤◌, ◌<◌}
-use mathlib.Core.Bool.{Bool, true, false}
+use Prim.Native.Nat.{ℕ, ◌+◌, ◌*◌, ◌≤◌, ◌<◌}
+use mathlib.Core.Bool.{Bool, true, false, not}
 use mathlib.Core.List.{List}
-use mathlib.Core.Path.{◌≡◌, refl, sym, ◌∙◌, subst}
+use mathlib.Core.Path.{◌≡◌, refl, sym, ◌∙◌, ap, ap₂, subst}
 use native.Mathlib.Omega.{arith}
-use lib.ListN.{length, length-take, get_or, drop, take}
+use lib.ListN.{length, drop, take}
+use Rattle.std.proofs.Common.{length-drop, take_all}
+use Rattle.std.proofs.Math.Seq.{drop-drop}
 use lib.Dec.{ltb}
-use borrow.Author.Tests.{ltb-false, lt-ltb, le-ltb, eq-eqb, ne_eqb}
-use Rattle.codes.specs.declared.Parsed.{Parsed}
-use Rattle.codes.specs.declared.Parsed.TheVariants.{Refused}
-use Rattle.codes.specs.declared.TokenId.{TokenId}
-use Rattle.codes.specs.Answer.{Gives, nodes, answer, parsed, row}
-use Rattle.checks.specs.Checks.{unequal, input_check, checked}
-use Rattle.checks.proofs.Laws.{neither, same}
-use Rattle.penne.specs.Promise.{Promise, Expression, Type', count_of}
+use Rattle.std.specs.Prelude.{Result, Ok, Err, None, Some, MatchResult}
+use Rattle.std.specs.Result.{result_ok}
+use borrow.Author.Tests.{lt-ltb, le-ltb, eq-eqb, ne_eqb}
+use Rattle.codes.specs.Answer.{Gives, nodes, answer, count_of, parsed, row}
+use Rattle.checks.specs.Checks.{or, unequal, input_check, checked}
+use Rattle.penne.specs.Promise.{Parsed, Promise, Type'}
+use Rattle.penne.specs.Promise.{Expression as Expression'}
 use Rattle.penne.proofs.Promises.{counted}
 use Rattle.rules.specs.Columns.{Nodes, columns}
 use Rattle.rules.specs.Codes.Limit as Limit
@@ -21,77 +22,102 @@ use Rattle.rules.specs.Types.{type}
 use Rattle.rules.specs.Expressions.{expression}
 use Rattle.rules.specs.Reading.{Rule, Row}
 use Rattle.rules.specs.Trees.{Tree, trees}
-use Rattle.penne_nodes.specs.declared.input.Input.{Input}
-use Rattle.penne_nodes.specs.declared.input.Input.TheVariants.{Ended}
-use Rattle.penne_nodes.specs.Filled.{input_bytes, Filled}
-use Rattle.penne_nodes.specs.Input.{program_slots, sizes_before_kinds, program_tokens, size_at, bad, asking, asked, tokens_of, cursor_in}
+use Rattle.penne_nodes.specs.Input.{program_slots, sizes_before_kinds, program_tokens, size_at, bad, asking, asked, tokens_of, cursor_in, row_in}
 use Rattle.penne_nodes.specs.Output.{parse, shown, output, columns_after, Answers}
 use Rattle.node_text.specs.Text.{bad_file, reply, lines}
-use Rattle.node_text.specs.Puts.{Puts, Room}
-use Rattle.node_text.proofs.Texts.{then, room, reply-short}
+use Rattle.node_text.specs.declared.TextBuffer.{TextBuffer}
+use Rattle.node_text.specs.Puts.{Puts, Room, Adds}
+use Rattle.node_text.proofs.Texts.{then, reply-short}
+use Rattle.penne_nodes.specs.declared.question.Entry.{Entry}
+use Rattle.penne_nodes.specs.declared.question.Entry.TheVariants.{Expression, «Type»}
+use Rattle.penne_nodes.specs.declared.question.NoEntry.{NoEntry}
+use Rattle.penne_nodes.specs.declared.question.Question.{Question}
 use Rattle.penne_nodes.specs.Parses.{Parses, Fits}
+use Rattle.penne_nodes.specs.Question.{number_of, rule_of, Asks}
 
-pub size-of :
-    (bytes : List ℕ) (at : ℕ) {a b c d : ℕ} → a ≡ get_or bytes at 0 → b ≡ get_or bytes (at + 1) 0 →
-    c ≡ get_or bytes (at + 2) 0 → d ≡ get_or bytes (at + 3) 0 → a + b * 256 + (c + d * 256) * 65536 ≡ size_at bytes at
-unfolding size_at
-size-of bytes at e f g h = rw (e, f, g, h) refl
+-- a bad file, by each of its tests
+first-of : (a b : Bool) → a ≡ true → or a b ≡ true
+first-of a b e = rw e refl
 
--- a bad file, by its tests in their order
+second-of : (a b : Bool) → b ≡ true → or a b ≡ true
+second-of true b e = refl
+second-of false b e = e
+
 module _ (bytes : List ℕ) where
-  pub no-sizes : length bytes < sizes_before_kinds → true ≡ bad bytes
+  pub short_bad : length bytes < sizes_before_kinds → bad bytes ≡ true
   unfolding bad
-  no-sizes h = rw (lt-ltb _ _ h) refl
+  short_bad h = first-of _ _ (lt-ltb _ _ h)
 
-  module _ (h : sizes_before_kinds ≤ length bytes) {n : ℕ} (e : n ≡ size_at bytes 0) where
-    pub too-many-tokens : program_tokens < n → true ≡ bad bytes
+  module _ {n : ℕ} (e : n ≡ size_at bytes 0) where
+    pub many-bad : program_tokens < n → bad bytes ≡ true
     unfolding bad
-    too-many-tokens b = rw (le-ltb _ _ h, ← e, lt-ltb _ _ b) refl
+    many-bad h = second-of _ _ (first-of _ _ (rw e at (lt-ltb _ _ h)))
 
-    module _ (b : n ≤ program_tokens) where
-      pub other_length : (length bytes ≡ sizes_before_kinds + n + n → ⊥) → true ≡ bad bytes
-      unfolding bad
-      other_length d = rw (le-ltb _ _ h, ← e, le-ltb _ _ b, ne_eqb _ _ d) refl
+    pub length-bad : (length bytes ≡ sizes_before_kinds + n + n → ⊥) → bad bytes ≡ true
+    unfolding bad
+    length-bad h = second-of _ _ (second-of _ _ (first-of _ _ (ap not (rw e at (ne_eqb _ _ h)))))
 
-      pub entry-tested : length bytes ≡ sizes_before_kinds + n + n → {m : ℕ} → m ≡ size_at bytes 8 → ltb 1 m ≡ bad bytes
-      unfolding bad
-      entry-tested d f = rw (le-ltb _ _ h, ← e, ← f, le-ltb _ _ b, eq-eqb _ _ d) refl
+  pub entry-bad : {m : ℕ} → m ≡ size_at bytes 8 → 2 ≤ m → bad bytes ≡ true
+  unfolding bad
+  entry-bad {m} e h =
+      let b : 1 < m = omega arith in
+      let t = unequal (length bytes) (sizes_before_kinds + tokens_of bytes + tokens_of bytes) in
+      let g = rw e at (lt-ltb 1 m b) in
+      second-of (ltb (length bytes) sizes_before_kinds) _
+      (second-of (ltb program_tokens (tokens_of bytes)) _ (second-of t _ g))
 
-pub counted-refused :
-    {r : Parsed} {n : ℕ} {s e c : TokenId} {k : ℕ} → r ≡ Refused n c k s e → k ≡ count_of r
-counted-refused h = rw h refl
+  pub good :
+      sizes_before_kinds ≤ length bytes → {n : ℕ} → n ≡ size_at bytes 0 → n ≤ program_tokens →
+      length bytes ≡ sizes_before_kinds + n + n → {m : ℕ} → m ≡ size_at bytes 8 → m < 2 → bad bytes ≡ false
+  unfolding bad
+  good h e b d {m} f g =
+      let i : m ≤ 1 = omega arith in
+      rw (le-ltb _ _ h, ← e, ← f, le-ltb _ _ b, eq-eqb _ _ d, le-ltb _ _ i) refl
 
-module _ (bytes : List ℕ) {b : Bool} (e : b ≡ bad bytes) where
-  pub is-bad : b ≡ true → true ≡ bad bytes
-  is-bad f = sym f ∙ e
+-- the entry with this number, if there is one
+pub no-entry :
+    (r : Result Entry NoEntry) {n : ℕ} → MatchResult r (λ e. number_of e ≡ n) (λ _. 2 ≤ n) → result_ok r ≡ None → 2 ≤ n
+no-entry (Ok e) h q = absurd cc
+no-entry (Err e) h q = h
 
-  pub is-good : b ≡ false → false ≡ bad bytes
-  is-good f = sym f ∙ e
+pub the-entry :
+    (r : Result Entry NoEntry) {n : ℕ} → MatchResult r (λ e. number_of e ≡ n) (λ _. 2 ≤ n) → {entry : Entry} →
+    result_ok r ≡ Some entry → number_of entry ≡ n
+the-entry (Ok e) h {entry} q = let w : e ≡ entry = cc in ap number_of (sym w) ∙ h
+the-entry (Err e) h q = absurd cc
 
--- what an input is that is not bad
-pub record Good (bytes : List ℕ) : Type 0 where
-  pub sizes : sizes_before_kinds ≤ length bytes
-  pub tokens : tokens_of bytes ≤ program_tokens
-  pub all : length bytes ≡ sizes_before_kinds + tokens_of bytes + tokens_of bytes
+-- the question of an input that is good
+few_entries : (e : Entry) → number_of e < 2
+few_entries Expression = omega arith
+few_entries «Type» = omega arith
 
-pub good : {bytes : List ℕ} → bad bytes ≡ false → Good bytes
-unfolding bad
-good {bytes} e =
-    let (a, f) = neither (ltb (length bytes) sizes_before_kinds) _ e in
-    let (b, g) = neither (ltb program_tokens (tokens_of bytes)) _ f in
-    let (c, _) = neither (unequal (length bytes) (sizes_before_kinds + tokens_of bytes + tokens_of bytes)) _ g in
-    record { sizes = ltb-false _ _ a; tokens = ltb-false _ _ b; all = same _ _ c }
+row_read :
+    (bytes : List ℕ) (n : ℕ) → length bytes ≡ sizes_before_kinds + n + n → {columns kinds types : List ℕ} →
+    columns ≡ drop sizes_before_kinds bytes → kinds ≡ take n columns → types ≡ drop n columns →
+    row kinds types ≡ row_in bytes n
+row_read bytes n l e f g =
+    let rest = drop (sizes_before_kinds + n) bytes in
+    let a : drop n (drop sizes_before_kinds bytes) ≡ rest = drop-drop n sizes_before_kinds bytes in
+    let b : take n rest ≡ rest = take_all n rest (simp length-drop (omega arith)) in
+    ap₂ (λ (ks vs : List ℕ). row ks vs) (f ∙ ap (take n) e) (g ∙ ap (drop n) e ∙ a ∙ sym b)
 
-module _ (bytes : List ℕ) (e : false ≡ bad bytes) where
-  pub size-there : {m : ℕ} → m ≤ sizes_before_kinds → m ≤ length bytes
-  size-there h = let s = (good (sym e)).sizes in omega arith
-
-  module _ {n : ℕ} (f : n ≡ size_at bytes 0) where
-    pub kinds-there : sizes_before_kinds + n ≤ length bytes
-    kinds-there = let s = (good (sym e)).all in omega arith
-
-    pub types-there : sizes_before_kinds + n + n ≤ length bytes
-    types-there = let s = (good (sym e)).all in omega arith
+pub question-read :
+    (bytes : List ℕ) → sizes_before_kinds ≤ length bytes → {n : ℕ} → n ≡ size_at bytes 0 → n ≤ program_tokens →
+    {columns : List ℕ} → columns ≡ drop sizes_before_kinds bytes → length columns ≡ n + n → {m : ℕ} →
+    m ≡ size_at bytes 8 → (question : Question) → number_of question.entry ≡ m →
+    question.row.kinds.now ≡ take n columns → question.row.types.now ≡ drop n columns →
+    question.cursor.0 ≡ size_at bytes 4 → Asks bytes question
+question-read bytes h {n} e b d l f question i k t c =
+    let s = few_entries question.entry in
+    let x = length-drop sizes_before_kinds bytes in
+    let y = ap length d in
+    let z : length bytes ≡ sizes_before_kinds + n + n = omega arith in
+    record {
+      good = good bytes h e b z f (omega arith);
+      entry = i ∙ f;
+      row = rw (← e) (row_read bytes n z d k t);
+      cursor = c;
+    }
 
 -- the entry that is asked for
 module _ {ks ls : List ℕ} (u : length ks ≡ program_slots) (v : length ls ≡ program_slots) {r : Parsed} {ks' ls' : List ℕ} where
@@ -109,79 +135,56 @@ module _ {ks ls : List ℕ} (u : length ks ≡ program_slots) (v : length ls ≡
         fits = record { count = omega arith; kinds = b ∙ u; loads = d ∙ v };
       }
 
-  module _ (R : Row) (c : ℕ) {e : ℕ} where
-    pub type-asked : e ≡ 1 → Type' R c (nodes ks ls 0) r ks' ls' → Parses (asking R c e) c ks ls r ks' ls'
+  module _ (R : Row) (c : ℕ) {entry : Entry} where
+    pub type-asked :
+        entry ≡ «Type» → Type' R c (nodes ks ls 0) r ks' ls' → Parses (asking R c (number_of entry)) c ks ls r ks' ls'
     unfolding asking
     type-asked i p = rw i (sized R c (type columns R Limit.Nesting) (type trees R Limit.Nesting) p)
 
     pub expression-asked :
-        (e ≡ 1 → ⊥) → Expression R c (nodes ks ls 0) r ks' ls' → Parses (asking R c e) c ks ls r ks' ls'
+        entry ≡ Expression → Expression' R c (nodes ks ls 0) r ks' ls' →
+        Parses (asking R c (number_of entry)) c ks ls r ks' ls'
     unfolding asking
     expression-asked i p =
-        rw (ne_eqb _ _ i) (sized R c (expression columns R Limit.Nesting) (expression trees R Limit.Nesting) p)
-
-pub input-asked :
-    (bytes : List ℕ) {n c e : ℕ} → n ≡ size_at bytes 0 → c ≡ size_at bytes 4 → e ≡ size_at bytes 8 →
-    {ks ls : List ℕ} {r : Parsed} {ks' ls' : List ℕ} →
-    Parses (asking (row (take ((sizes_before_kinds + n) - sizes_before_kinds) (drop sizes_before_kinds bytes))
-    (take ((sizes_before_kinds + n + n) - (sizes_before_kinds + n)) (drop (sizes_before_kinds + n) bytes))) c e) c ks ls r ks' ls' →
-    Parses (asked bytes) (cursor_in bytes) ks ls r ks' ls'
-input-asked bytes {n} {c} {e} f g h {ks} {ls} {r} {ks'} {ls'} p =
-    let a : (sizes_before_kinds + n) - sizes_before_kinds ≡ n = omega arith in
-    let b : (sizes_before_kinds + n + n) - (sizes_before_kinds + n) ≡ n = omega arith in
-    let P : ℕ → ℕ → Type 0 = λ i j.
-    Parses (asking (row (take i (drop sizes_before_kinds bytes)) (take j (drop (sizes_before_kinds + n) bytes))) c e) c ks ls r ks' ls' in
-    let q : P n n = subst (λ (i : ℕ). P i n) a (subst (λ (j : ℕ). P ((sizes_before_kinds + n) - sizes_before_kinds) j) b p) in
-    rw (← f, ← g, ← h) q
+        rw i (sized R c (expression columns R Limit.Nesting) (expression trees R Limit.Nesting) p)
 
 -- the reply and the nodes
 pub parse-put :
-    (ks ls : List ℕ) (r : Parsed) {n p end : ℕ} {xs ys zs : List ℕ} → n ≡ count_of r → Puts xs 0 (reply r) ys p →
-    Puts ys p (lines (nodes ks ls n) n) zs end → Puts xs 0 (parse r (nodes ks ls (count_of r))) zs end
-parse-put ks ls r e f g = rw (← e) (then {t = reply r} f g)
+    (ks ls : List ℕ) (r : Parsed) {n : ℕ} {x y z : TextBuffer} → n ≡ count_of r → Adds x (reply r) y →
+    Adds y (lines (nodes ks ls n) n) z → Adds x (parse r (nodes ks ls (count_of r))) z
+parse-put ks ls r e f g = rw (← e) (then f g)
 
-module _ (r : Parsed) {ks ls : List ℕ} (f : Fits r ks ls) {n : ℕ} (e : n ≡ count_of r) where
-  pub kinds-fit : n ≤ length ks
-  kinds-fit =
-      let a = f.count in
-      let b = f.kinds in
-      omega arith
-
-  pub loads-fit : n ≤ length ls
-  loads-fit =
-      let a = f.count in
-      let b = f.loads in
-      omega arith
-
-  pub nodes-room :
-      {xs ys : List ℕ} {p : ℕ} → Puts xs 0 (reply r) ys p → Room xs 0 (64 + 33 * program_slots) → Room ys p (33 * n)
-  nodes-room p h = let a = f.count in room (reply-short r) p h (omega arith)
+pub nodes-room :
+    (r : Parsed) {ks ls : List ℕ} → Fits r ks ls → {n : ℕ} → n ≡ count_of r → {xs ys : List ℕ} {at end : ℕ} →
+    Puts xs at (reply r) ys end → Room xs at (64 + 33 * program_slots) → Room ys end (33 * n)
+nodes-room r f e p h =
+    let a = f.count in
+    let b = reply-short r in
+    let c = p.size in
+    let d = p.place in
+    let g = h.there in
+    record { there = omega arith }
 
 -- the output and the columns, by whether the file is bad
 module _ (bytes : List ℕ) {xs ys : List ℕ} {end : ℕ} where
   pub bad-answered :
-      (s : Nodes) → true ≡ bad bytes → Puts xs 0 bad_file ys end → Answers bytes s xs ys end s.kinds s.loads
+      (s : Nodes) → bad bytes ≡ true → Puts xs 0 bad_file ys end → Answers bytes s xs ys end s.kinds s.loads
   unfolding output columns_after
-  bad-answered s e p = record { text = rw (← e) p; kinds = rw (← e) refl; loads = rw (← e) refl }
+  bad-answered s e p = record { text = rw e p; kinds = rw e refl; loads = rw e refl }
 
   pub parse-answered :
-      (s : Nodes) → false ≡ bad bytes → (r : Parsed) {ks ls : List ℕ} → Gives (asked bytes) (cursor_in bytes) s r ks ls →
+      (s : Nodes) {question : Question} → Asks bytes question → (r : Parsed) {ks ls : List ℕ} →
+      Gives (rule_of question) question.cursor.0 s r ks ls →
       Puts xs 0 (parse r (nodes ks ls (count_of r))) ys end → Answers bytes s xs ys end ks ls
   unfolding output columns_after
-  parse-answered s e r {ks} {ls} d p =
+  parse-answered s a r {ks} {ls} g p =
+      let d : Gives (asked bytes) (cursor_in bytes) s r ks ls = rw (a.row, a.cursor, a.entry) at g in
       let o = asked bytes (cursor_in bytes) s in
       let c : count_of (answer parsed o.result o.cursor o.state.count) ≡ o.state.count =
       counted o.result _ _ in
       let t : parse r (nodes ks ls (count_of r)) ≡ shown o = rw (d.reply, d.kinds, d.loads, c) refl in
       record {
-        text = rw (← e) (subst (λ (u : List ℕ). Puts xs 0 u ys end) t p);
-        kinds = rw (← e) d.kinds;
-        loads = rw (← e) d.loads;
+        text = rw a.good (subst (λ (u : List ℕ). Puts xs 0 u ys end) t p);
+        kinds = rw a.good d.kinds;
+        loads = rw a.good d.loads;
       }
-
--- what was read is a part of the buffer
-pub start-counts :
-    (bytes : List ℕ) {i : Input} {n : ℕ} → i ≡ Ended n → Filled i → length bytes ≡ input_bytes → n ≡ length (take n bytes)
-start-counts bytes e f h =
-    let g : _ ≤ input_bytes = subst Filled e f in
-    simp length-take (omega arith)

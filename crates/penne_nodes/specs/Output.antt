@@ -1,8 +1,7 @@
 -- What penne-nodes writes for each input. The entries' promises, and so the three demands, hold of the parse in it.
 use Rattle.std.specs.Prelude.{ℕ, List, ◌++◌, ◌≡◌}
-use Rattle.codes.specs.Answer.{answer, parsed}
-use Rattle.codes.specs.declared.Parsed.{Parsed}
-use Rattle.penne.specs.Promise.{count_of}
+use Rattle.codes.specs.Answer.{answer, count_of, parsed}
+use Rattle.penne.specs.Promise.{Parsed}
 use Rattle.rules.specs.Codes.{pick}
 use Rattle.rules.specs.Reading.{Outcome}
 use Rattle.rules.specs.Columns.{Nodes}

@@ -1,8 +1,7 @@
 -- What a parse into columns with all the slots has given.
 use Rattle.std.specs.Prelude.{ℕ, ◌≤◌, List, ◌≡◌, length}
-use Rattle.codes.specs.declared.Parsed.{Parsed}
-use Rattle.codes.specs.Answer.{Gives, nodes}
-use Rattle.penne.specs.Promise.{count_of}
+use Rattle.codes.specs.Answer.{Gives, count_of, nodes}
+use Rattle.penne.specs.Promise.{Parsed}
 use Rattle.rules.specs.Columns.{Nodes}
 use Rattle.rules.specs.Reading.{Rule}
 use Rattle.penne_nodes.specs.Input.{program_slots}

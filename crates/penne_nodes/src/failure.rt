@@ -1,7 +1,11 @@
-// A read or a write that failed.
-use std::io::Error;
+// A read or a write that failed, and why.
+use std::io;
+use thiserror::Error;
 
-// Tells on standard error what failed, and why. Where that fails too, there is no one left to tell.
-pub fn tell(rt: &HostRuntime, call: &str, cause: &Error) {
-    let _ = eprintln!(rt; "penne_nodes: {call}: {cause}");
+#[derive(Debug, Drop, Error)]
+pub enum Failure {
+    #[error("read: {0}")]
+    Read(io::Error),
+    #[error("write: {0}")]
+    Write(io::Error),
 }

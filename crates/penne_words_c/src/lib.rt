@@ -1,7 +1,7 @@
 // The five entries of crate penne with a word a node, and packing, for programs in C and in Rust, which pass numbers and
 // slices only. Each function is lent a column `reply` and writes its reply into the first six places: see crate replies.
 // Where the column has fewer places nothing is read or written, and the result is false. Nothing is asked of the input,
-// and nothing is allocated.
+// and nothing is allocated. C calls each function by its name, so each is written out.
 #![tactic(auto)]
 
 ghost use Rattle.std.specs.Prelude.{◌≡◌};
@@ -11,7 +11,7 @@ ghost use Rattle.replies.specs.Reply.{written, written_word, Replied};
 ghost use Rattle.rules.specs.Words.{word_kind, word_load};
 ghost use Rattle.packing.specs.Answer.{packing};
 
-use codes::TokenId;
+use codes::{Node, TokenId};
 use replies::{PLACES, write, write_word};
 
 // An expression from the cursor on.
@@ -24,7 +24,10 @@ pub extern "C" fn penne_words_parse_expression(
     count: u32,
     reply: &mut [u32],
 ) -> bool
-    ensures { Replied written (λ p. ExpressionWords (row kinds.now types.now) cursor node_words.old count p node_words.new) (node_words.new ≡ node_words.old) reply.old result reply.new }
+    ensures { Replied written
+        (λ p. ExpressionWords (row kinds.now types.now) cursor
+        node_words.old count p node_words.new)
+        (node_words.new ≡ node_words.old) reply.old result reply.new }
 {
     if reply.len() < PLACES {
         return false;
@@ -44,7 +47,10 @@ pub extern "C" fn penne_words_parse_type(
     count: u32,
     reply: &mut [u32],
 ) -> bool
-    ensures { Replied written (λ p. TypeWords (row kinds.now types.now) cursor node_words.old count p node_words.new) (node_words.new ≡ node_words.old) reply.old result reply.new }
+    ensures { Replied written
+        (λ p. TypeWords (row kinds.now types.now) cursor
+        node_words.old count p node_words.new)
+        (node_words.new ≡ node_words.old) reply.old result reply.new }
 {
     if reply.len() < PLACES {
         return false;
@@ -66,7 +72,10 @@ pub extern "C" fn penne_words_parse_constant_declaration(
     flags: u32,
     reply: &mut [u32],
 ) -> bool
-    ensures { Replied written (λ p. ConstantWords (row kinds.now types.now) cursor start flags node_words.old count p node_words.new) (node_words.new ≡ node_words.old) reply.old result reply.new }
+    ensures { Replied written
+        (λ p. ConstantWords (row kinds.now types.now) cursor start flags
+        node_words.old count p node_words.new)
+        (node_words.new ≡ node_words.old) reply.old result reply.new }
 {
     if reply.len() < PLACES {
         return false;
@@ -96,7 +105,10 @@ pub extern "C" fn penne_words_parse_struct_declaration(
     flags: u32,
     reply: &mut [u32],
 ) -> bool
-    ensures { Replied written (λ p. StructWords (row kinds.now types.now) cursor start flags node_words.old count p node_words.new) (node_words.new ≡ node_words.old) reply.old result reply.new }
+    ensures { Replied written
+        (λ p. StructWords (row kinds.now types.now) cursor start flags
+        node_words.old count p node_words.new)
+        (node_words.new ≡ node_words.old) reply.old result reply.new }
 {
     if reply.len() < PLACES {
         return false;
@@ -127,7 +139,10 @@ pub extern "C" fn penne_words_parse_word_declaration(
     declaring_token: u8,
     reply: &mut [u32],
 ) -> bool
-    ensures { Replied written (λ p. WordWords (row kinds.now types.now) cursor start flags declaring_token node_words.old count p node_words.new) (node_words.new ≡ node_words.old) reply.old result reply.new }
+    ensures { Replied written
+        (λ p. WordWords (row kinds.now types.now) cursor start flags declaring_token
+        node_words.old count p node_words.new)
+        (node_words.new ≡ node_words.old) reply.old result reply.new }
 {
     if reply.len() < PLACES {
         return false;
@@ -150,12 +165,13 @@ pub extern "C" fn penne_words_parse_word_declaration(
 // acceptance has its root.
 #[unsafe(no_mangle)]
 pub extern "C" fn penne_pack(kind: u8, load: u32, reply: &mut [u32]) -> bool
-    ensures { Replied written_word (λ p. p ≡ packing kind load) (Unit {0}) reply.old result reply.new }
+    ensures { Replied written_word (λ p. p ≡ packing kind load) (Unit {0})
+        reply.old result reply.new }
 {
     if reply.len() < PLACES {
         return false;
     }
-    write_word(reply, packing::pack(kind, load));
+    write_word(reply, packing::pack(Node(kind, load)));
     true
 }
 

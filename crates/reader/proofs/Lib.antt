@@ -1,8 +1,13 @@
 pub mod Above
+pub mod Calls
+pub mod Expects
 pub mod Forms
 pub mod Held
 pub mod Laws
 pub mod Lending
+pub mod Lent
 pub mod Made
 pub mod Moves
+pub mod Tries
+pub mod Walked
 pub mod Ways

@@ -19,7 +19,7 @@ use denote.Triple.Entry.{Args}
 use denote.Triple.Spec.{triple_of}
 use Rattle.reader.specs.declared.Tokens.{Tokens}
 use Rattle.reader.proofs.Held.{B, values, Params, twice}
-use Rattle.reader.specs.contracts.new as new
+use Rattle.reader.specs.contracts.Tokens.new as new
 
 -- its contract
 abbrev pub New : {M : Type 1} {𝓤 : Ura M} (𝓛 : Logic 𝓤) (mem : Memory → SProp 𝓤) (run : Routine →
@@ -32,13 +32,13 @@ abbrev pub αᵉ : Lft → NamedLft
 
 -- r is made of the row and the cursor of h
 abbrev pub Made : Tokens → Tokens → Type 0
-Made h r = (r.kinds ≡ h.kinds) × (r.types ≡ h.types) × (r.cursor ≡ h.cursor)
+Made h r = (r.row ≡ h.row) × (r.cursor ≡ h.cursor)
 
 module _ {M : Type 1} {𝓤 : Ura M} (𝓛 : Logic 𝓤) (mem : Memory → SProp 𝓤) (run : Routine → Fun 𝓤)
     (κ : Lft)
     (q : Share) (h : Tokens) where
   abbrev parts : Args new.signature (κ, tt)
-  parts = (h.kinds, (h.types, (h.cursor, tt)))
+  parts = (h.row, (h.cursor, tt))
 
   abbrev pub to-new : (New 𝓛 mem run).Ghost
   to-new = (((κ, tt), (q, tt), tt, parts, values h), tt)

@@ -5,22 +5,17 @@ use mathlib.Core.Option.{Option, none}
 use Prim.Native.Nat.{ℕ, ◌+◌, ◌≤◌}
 use native.Mathlib.Omega.{arith}
 use lib.ListN.{length, replicate, length-replicate}
-use Rattle.codes.specs.declared.Parsed.{Parsed}
-use Rattle.codes.specs.declared.Parsed.TheVariants.{Node}
+use Rattle.std.specs.Prelude.{Ok}
 use Rattle.codes.specs.declared.NodeId.{NodeId}
-use Rattle.codes.specs.declared.TokenId.{TokenId}
-use Rattle.codes.specs.Answer.{parsed, row}
+use Rattle.codes.specs.declared.Read.{Read}
+use Rattle.codes.specs.Answer.{ParseResult, parsed, row}
 use Rattle.codes.specs.Words.{Gives, Untyped, Quiet, nodes}
 use Rattle.codes.proofs.Onto.{Onto, plain-parsed, moved, came-read, split}
 use Rattle.codes.proofs.Loops.{held_in, same-held}
 use Rattle.nodes.specs.Answer.{WithinSlots, active, past}
 use Rattle.nodes.proofs.Bounds.{slots-after, item-past}
-use Rattle.references.specs.declared.Ampersands.{Ampersands}
-use Rattle.references.specs.declared.Ampersands.TheVariants.{Depth, Refused as NoDepth}
-use Rattle.references.specs.declared.Address.TheVariants.{Name, Refused as NoName}
-use Rattle.references.specs.Answer.{depths, Shallow, Near}
-use Rattle.references.specs.Answer.{closing, counting}
-use Rattle.references.proofs.Laws.{holding-depths}
+use Rattle.references.specs.Answer.{depths, closing, counting}
+use Rattle.references.proofs.Laws.{plain-depths}
 use Rattle.rules.specs.Codes.{refusal_of}
 use Rattle.rules.specs.Codes.Limit as Limit
 use Rattle.rules.specs.Reading.{Row, Step, again, pure, ◌>>=◌}
@@ -36,10 +31,10 @@ stop : (row : Row) (c : ℕ) → Stop row (length row.kinds + c)
 stop row c = record { within = λ i h. let b = (below row).within i h in omega arith }
 
 -- after a closing token and its node
-module _ {tk ns : List ℕ} (key kind inside : ℕ) {c k : ℕ} {r : Parsed} {ns' : List ℕ}
-    (g : Untyped parsed (closing key kind inside) tk c (nodes ns k) r ns') {n : NodeId} {p : TokenId} {j : ℕ}
-    (q : r ≡ Node n p j) (h : Nonzero (refusal_of key)) (z : WithinSlots ns k) where
-  pub after-closed : WithinSlots ns' j × (k ≤ j) × (p.0 ≡ c + 1)
+module _ {tk ns : List ℕ} (key kind inside : ℕ) {c k : ℕ} {r : ParseResult (Read NodeId)} {ns' : List ℕ}
+    (g : Untyped parsed (closing key kind inside) tk c (nodes ns k) r ns') {v : Read NodeId}
+    (q : r ≡ Ok v) (h : Nonzero (refusal_of key)) (z : WithinSlots ns k) where
+  pub after-closed : WithinSlots ns' v.count × (k ≤ v.count) × (v.cursor.0 ≡ c + 1)
   unfolding closing closed
   after-closed =
       slots-after plain-parsed
@@ -48,35 +43,14 @@ module _ {tk ns : List ℕ} (key kind inside : ℕ) {c k : ℕ} {r : Parsed} {ns
 
 -- after ampersands
 pub ampersands-at :
-    (start : ℕ) {tk : List ℕ} {c k : ℕ} {a : Ampersands} → Quiet depths (counting start) tk c k a →
-    {depth : ℕ} {p : TokenId} {j : ℕ} → a ≡ Depth depth p j → length tk ≤ Limit.Tokens → c ≤ length tk →
-    p.0 ≤ Limit.Tokens + 1
+    (start : ℕ) {tk : List ℕ} {c k : ℕ} {a : ParseResult (Read ℕ)} → Quiet depths (counting start) tk c k a →
+    {v : Read ℕ} → a ≡ Ok v → length tk ≤ Limit.Tokens → c ≤ length tk → v.cursor.0 ≤ Limit.Tokens + 1
 unfolding counting
 ampersands-at start {tk} {c} {k} g q b h =
     let (x, _, _) =
-    moved (came-read holding-depths.plain (g.run [] (replicate k 0)) q)
+    moved (came-read (g.run [] (replicate k 0)) plain-depths q)
     (ampersands-stays (below (row tk [])) (omega arith) start c) (omega (arith, length-replicate {A = ℕ} k 0)) h in
     omega arith
-
--- a depth fits a word, and so does the name after it
-pub shallow : (d : ℕ) (p : TokenId) (k : ℕ) → d ≤ Limit.AddressDepth → Shallow (Depth d p k)
-unfolding Shallow
-shallow d p k h = omega arith
-
-pub shallow-none : (r : Parsed) → Shallow (NoDepth r)
-unfolding Shallow
-shallow-none r = tt
-
-pub near :
-    (start : ℕ) {tk : List ℕ} {c k : ℕ} {a : Ampersands} → Quiet depths (counting start) tk c k a × Shallow a →
-    {depth : ℕ} {p : TokenId} {j : ℕ} → a ≡ Depth depth p j → length tk ≤ Limit.Tokens → c ≤ length tk →
-    (after : TokenId) (used : ℕ) → Near (Name depth p after used)
-unfolding Shallow Near
-near start g q b h after used = let x = ampersands-at start g.0 q b h in (rw q at g.1, omega arith)
-
-pub near_none : (r : Parsed) → Near (NoName r)
-unfolding Near
-near_none r = tt
 
 -- after a name with no step
 deref-there :
@@ -93,9 +67,9 @@ unfolding name_alone
 name-there name = closes none then λ l p q. eased (λ _ _ e. e ∙ q) (deref-there name 0 name l)
 
 pub after-name :
-    {ns : List ℕ} (name : ℕ) {c k : ℕ} {r : Parsed} {ns' : List ℕ} →
-    Gives (name_alone words name) c (nodes ns k) r ns' → {n : NodeId} {p : TokenId} {j : ℕ} → r ≡ Node n p j →
-    WithinSlots ns k → WithinSlots ns' j × (k ≤ j) × (p.0 ≡ c)
+    {ns : List ℕ} (name : ℕ) {c k : ℕ} {r : ParseResult (Read NodeId)} {ns' : List ℕ} →
+    Gives (name_alone words name) c (nodes ns k) r ns' → {v : Read NodeId} → r ≡ Ok v →
+    WithinSlots ns k → WithinSlots ns' v.count × (k ≤ v.count) × (v.cursor.0 ≡ c)
 after-name name {c = c} g q z = slots-after plain-parsed (name-there {n = c} name) (omega arith) g q z
 
 -- the list of a step, or of a round that is the last, is as that of its item

@@ -1,14 +1,13 @@
 -- The answers of the code as the rules give them.
-use Rattle.std.specs.Prelude.{ℕ, ◌≤◌}
+use Rattle.std.specs.Prelude.{ℕ, ◌≤◌, Ok, Err, IfOk}
 use Rattle.std.proofs.Math.Option.{Option}
-use Rattle.codes.specs.Answer.{Form, token}
+use Rattle.codes.specs.declared.Read.{Read}
+use Rattle.codes.specs.Answer.{State, ParseResult, reading, token}
+use Rattle.nodes.specs.declared.ActiveList.{ActiveList}
 use Rattle.nodes.specs.Answer.{active}
-use Rattle.references.specs.declared.Ampersands.{Ampersands}
-use Rattle.references.specs.declared.Ampersands.TheVariants.{Depth, Refused as NoDepth}
 use Rattle.references.specs.declared.Address.{Address}
-use Rattle.references.specs.declared.Address.TheVariants.{Name, Refused as NoName}
 use Rattle.references.specs.declared.Stepped.{Stepped}
-use Rattle.references.specs.declared.Stepped.TheVariants.{More, Last, Refused as NoStep}
+use Rattle.references.specs.declared.Stepped.TheVariants.{More, Last}
 use Rattle.rules.specs.Codes.Limit as Limit
 use Rattle.rules.specs.Reading.{Rule, Row, Step, again, done, ◌>>=◌}
 use Rattle.rules.specs.Lists.{Ends}
@@ -16,20 +15,28 @@ use Rattle.rules.specs.Words.{Words, words, push_end_of_list}
 use Rattle.rules.specs.Expressions.{closed, ampersands, address, deref, step_end, element_end, member}
 
 -- a number of ampersands
-abbrev pub depths : Form ℕ Ampersands
-depths = record { read = λ depth cursor count. Depth depth (token cursor) count; refused = NoDepth }
+abbrev pub depths : ℕ → State → Read ℕ
+depths = reading (λ depth. depth)
 
 -- a number of ampersands and a name
-abbrev pub addressed : Form (ℕ × ℕ) Address
-addressed = record { read = λ a cursor count. Name a.0 (token a.1) (token cursor) count; refused = NoName }
+abbrev pub address_of : ℕ × ℕ → Address
+address_of a = record { depth = a.0; name = token a.1 }
+
+abbrev pub addressed : ℕ × ℕ → State → Read Address
+addressed = reading address_of
 
 -- a step more, or the whole list
-abbrev pub step_of : Step (Option Ends) (Option Ends) → ℕ → ℕ → Stepped
-step_of (again l) cursor count = More (active l) (token cursor) count
-step_of (done l) cursor count = Last (active l) (token cursor) count
+abbrev pub step_of : Step (Option Ends) (Option Ends) → Stepped
+step_of (again l) = More (active l)
+step_of (done l) = Last (active l)
 
-abbrev pub stepped : Form (Step (Option Ends) (Option Ends)) Stepped
-stepped = record { read = step_of; refused = NoStep }
+abbrev pub stepped : Step (Option Ends) (Option Ends) → State → Read Stepped
+stepped = reading step_of
+
+-- the answer of a reader that only ever gives the list with a step more
+abbrev pub one_more : ParseResult (Read ActiveList) → ParseResult (Read Stepped)
+one_more (Ok v) = Ok (record { value = More v.value; cursor = v.cursor; count = v.count })
+one_more (Err e) = Err e
 
 -- the rules of any row
 unfoldable pub closing : ℕ → ℕ → ℕ → Row → Rule Words ℕ
@@ -57,10 +64,8 @@ deref_end l start depth name = do
   deref words start depth name steps
 
 -- a depth, and a depth and a name, fit words
-unfoldable pub Shallow : Ampersands → Type 0
-Shallow (Depth depth cursor count) = depth ≤ Limit.Load
-Shallow (NoDepth r) = Unit {0}
+abbrev pub Shallow : ParseResult (Read ℕ) → Type 0
+Shallow r = IfOk r (λ v. v.value ≤ Limit.Load)
 
-unfoldable pub Near : Address → Type 0
-Near (Name depth name cursor count) = (depth ≤ Limit.Load) × (name.0 ≤ Limit.Load)
-Near (NoName r) = Unit {0}
+abbrev pub Near : ParseResult (Read Address) → Type 0
+Near r = IfOk r (λ v. (v.value.depth ≤ Limit.Load) × (v.value.name.0 ≤ Limit.Load))

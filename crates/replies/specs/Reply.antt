@@ -1,9 +1,9 @@
 -- A reply in a column of numbers.
-use Rattle.std.specs.Prelude.{ℕ, ◌≤◌, ◌<◌, Bool, true, false, List, ◌≡◌, length, set}
-use Rattle.codes.specs.declared.Parsed.{Parsed}
-use Rattle.codes.specs.declared.Parsed.TheVariants.{Node, Refused}
-use Rattle.packing.specs.declared.Packed.{Packed}
-use Rattle.packing.specs.declared.Packed.TheVariants.{Word, Refused as NoWord}
+use Rattle.std.specs.Prelude.{ℕ, ◌≤◌, ◌<◌, Bool, true, false, List, [], ◌∷◌, ◌++◌, ◌≡◌, length, drop, Ok, Err}
+use Rattle.codes.specs.declared.NodeId.{NodeId}
+use Rattle.codes.specs.declared.ParsingError.{ParsingError}
+use Rattle.codes.specs.declared.Read.{Read}
+use Rattle.codes.specs.Answer.{ParseResult}
 
 -- the places of a reply: its case and five numbers
 abbrev pub reply_numbers : ℕ
@@ -17,18 +17,24 @@ abbrev pub refused_case : ℕ
 refused_case = 1
 
 -- the column rs with its first six places anew
-unfoldable pub placed : List ℕ → ℕ → ℕ → ℕ → ℕ → ℕ → ℕ → List ℕ
-placed rs case a b c d e = set (set (set (set (set (set rs 0 case) 1 a) 2 b) 3 c) 4 d) 5 e
+abbrev pub placed : List ℕ → List ℕ → List ℕ
+placed rs numbers = numbers ++ drop reply_numbers rs
 
 -- the values of a reply in their order, by its case (MANUAL.md, Replies)
-abbrev pub written : List ℕ → Parsed → List ℕ
-written rs (Node root cursor count) = placed rs accepted_case root.0 cursor.0 count 0 0
-written rs (Refused number cursor count start end) = placed rs refused_case number start.0 end.0 cursor.0 count
+abbrev pub accepted : Read NodeId → List ℕ
+accepted r = accepted_case ∷ r.value.0 ∷ r.cursor.0 ∷ r.count ∷ 0 ∷ 0 ∷ []
+
+abbrev pub refused : ParsingError → List ℕ
+refused e = refused_case ∷ e.number ∷ e.start.0 ∷ e.end.0 ∷ e.cursor.0 ∷ e.count ∷ []
+
+abbrev pub written : List ℕ → ParseResult (Read NodeId) → List ℕ
+written rs (Ok r) = placed rs (accepted r)
+written rs (Err e) = placed rs (refused e)
 
 -- a word, or the refusal of one: the word stands where an acceptance has its root
-abbrev pub written_word : List ℕ → Packed → List ℕ
-written_word rs (Word word) = placed rs accepted_case word 0 0 0 0
-written_word rs (NoWord refusal) = written rs refusal
+abbrev pub written_word : List ℕ → ParseResult ℕ → List ℕ
+written_word rs (Ok word) = placed rs (accepted_case ∷ word ∷ 0 ∷ 0 ∷ 0 ∷ 0 ∷ [])
+written_word rs (Err e) = placed rs (refused e)
 
 -- There is a reply with the promise P, and it is written to the column by W; nothing else of this column changed.
 pub record Given {R : Type 0} (W : List ℕ → R → List ℕ) (P : R → Type 0) (rs rs' : List ℕ) : Type 0 where

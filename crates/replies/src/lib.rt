@@ -3,10 +3,9 @@
 #![tactic(auto)]
 
 ghost use Rattle.std.specs.Prelude.{◌≡◌, ◌≤◌, length};
-ghost use Rattle.replies.specs.Reply.{reply_numbers, placed, written, written_word};
+ghost use Rattle.replies.specs.Reply.{reply_numbers, placed, refused, written, written_word};
 
-use codes::Parsed;
-use packing::Packed;
+use codes::{ParseResult, Parsed, ParsingError, Read};
 
 // The places of a reply.
 pub const PLACES: usize = 6;
@@ -17,16 +16,25 @@ const ACCEPTED: u32 = 0;
 const REFUSED: u32 = 1;
 
 // The first six places of the column anew.
-fn place(reply: &mut [u32], case: u32, a: u32, b: u32, c: u32, d: u32, e: u32)
+fn place(reply: &mut [u32], numbers: [u32; PLACES])
     requires { reply_numbers ≤ length reply.old }
-    ensures { reply.new ≡ placed reply.old «case» a b c d e }
+    ensures { reply.new ≡ placed reply.old numbers }
 {
-    reply[0] = case;
-    reply[1] = a;
-    reply[2] = b;
-    reply[3] = c;
-    reply[4] = d;
-    reply[5] = e;
+    reply[..PLACES].copy_from_slice(&numbers);
+}
+
+// The numbers of a refusal.
+fn refused(refusal: ParsingError) -> [u32; PLACES]
+    ensures { result ≡ refused refusal }
+{
+    let ParsingError {
+        number,
+        cursor,
+        count,
+        start,
+        end,
+    } = refusal;
+    [REFUSED, number, start.0, end.0, cursor.0, count]
 }
 
 // A reply as numbers in the column.
@@ -34,29 +42,27 @@ pub fn write(reply: &mut [u32], parsed: Parsed)
     requires { reply_numbers ≤ length reply.old }
     ensures { reply.new ≡ written reply.old parsed }
 {
-    match parsed {
-        Parsed::Node {
-            root,
-            cursor,
-            count,
-        } => place(reply, ACCEPTED, root.0, cursor.0, count, 0, 0),
-        Parsed::Refused {
-            number,
-            start,
-            end,
-            cursor,
-            count,
-        } => place(reply, REFUSED, number, start.0, end.0, cursor.0, count),
-    }
+    let numbers = match parsed {
+        Ok(
+            Read {
+                value: root,
+                cursor,
+                count,
+            },
+        ) => { [ACCEPTED, root.0, cursor.0, count, 0, 0] }
+        Err(refusal) => refused(refusal),
+    };
+    place(reply, numbers);
 }
 
-// A word, or its refusal, as numbers in the column.
-pub fn write_word(reply: &mut [u32], packed: Packed)
+// A word, or its refusal, as numbers in the column. A trait for what is accepted would be longer than both functions.
+pub fn write_word(reply: &mut [u32], packed: ParseResult<u32>)
     requires { reply_numbers ≤ length reply.old }
     ensures { reply.new ≡ written_word reply.old packed }
 {
-    match packed {
-        Packed::Word { word } => place(reply, ACCEPTED, word, 0, 0, 0, 0),
-        Packed::Refused { refusal } => write(reply, refusal),
-    }
+    let numbers = match packed {
+        Ok(word) => [ACCEPTED, word, 0, 0, 0, 0],
+        Err(refusal) => refused(refusal),
+    };
+    place(reply, numbers);
 }

@@ -12,11 +12,3 @@ room = 65536
 -- the slots that are lent
 abbrev pub slots : ℕ
 slots = 512
-
--- a kind or a value type
-abbrev pub byte : ℕ
-byte = 255
-
--- how often a word stands
-abbrev pub times : ℕ
-times = 65536

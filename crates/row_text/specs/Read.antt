@@ -1,20 +1,17 @@
 -- What holds of what is read in a line.
-use Rattle.std.specs.Prelude.{ℕ, ◌≤◌, List, length}
+use Rattle.std.specs.Prelude.{ℕ, ◌≤◌, ◌≡◌, List, length, take}
+use Rattle.lines.specs.Line.{Within}
 use Rattle.row_text.specs.LineLimits as LineLimits
-use Rattle.row_text.specs.declared.Tokens.{Tokens}
 use Rattle.row_text.specs.declared.Row.{Row}
 
--- Tokens that were read at `from` after `count` others end within the line, and all of them fit the columns. Which they
--- are is free: the outputs of the test programs show it.
-pub record Counted (line : List ℕ) (from count : ℕ) (r : Tokens) : Type 0 where
-  pub low : from ≤ r.next
-  pub high : r.next ≤ length line
-  pub more : count ≤ r.count
-  pub fits : r.count ≤ LineLimits.room
+-- A number that a line sets is at most so large, and what follows is the end of the line.
+pub record Setting (line : List ℕ) (most number : ℕ) (rest : List ℕ) : Type 0 where
+  pub within : Within line rest
+  pub value : number ≤ most
 
--- The text is a part of the line, and slots and tokens are within their limits. Whether the line is good, and which
--- slots and tokens it says, is free: the outputs of the test programs show it.
-pub record Fits (line : List ℕ) (r : Row) : Type 0 where
-  pub text : r.text ≤ length line
+-- The text is the beginning of the line, and slots and tokens are within their limits. Whether the line is good, and
+-- which slots and tokens it says, is free: the outputs of the test programs show it.
+pub record Fits (line : List ℕ) (r : Row) (count : ℕ) : Type 0 where
+  pub text : r.text.now ≡ take (length r.text.now) line
   pub slots : r.slots ≤ LineLimits.slots
-  pub tokens : r.tokens ≤ LineLimits.tokens
+  pub tokens : count ≤ LineLimits.tokens

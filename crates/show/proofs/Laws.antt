@@ -1,14 +1,18 @@
--- How many nodes a loop has printed that ends where the nodes or the slots do.
-use Prim.Native.Nat.{ℕ, ◌≤◌, min}
-use mathlib.Core.Path.{◌≡◌, ◌∙◌, ap}
-use native.Mathlib.Omega.{arith}
+-- The nodes in two columns.
+use Rattle.std.proofs.Common.{ℕ, ◌<◌, ◌≡◌, refl, ◌∙◌, min, List, length, get_or, slice_get, Some, arith}
+use Rattle.std.proofs.lemmas.List.{length-map}
+use Rattle.std.proofs.lemmas.Slice.Zip.{length-zip, get_or-zip}
+use Rattle.std.proofs.lemmas.Option.{slice_get-map, slice_get-get_or}
+use Rattle.std.specs.List.{zip}
+use Rattle.show.specs.Shown.{node_in, nodes_in}
 
-module _ {n end : ℕ} (h : n ≤ end) (b : end ≤ n) where
-  all : n ≡ end
-  all = omega arith
+module _ (kinds loads : List ℕ) where
+  pub nodes_counted : length (nodes_in kinds loads) ≡ min (length kinds) (length loads)
+  nodes_counted = length-map (zip kinds loads) node_in ∙ length-zip kinds loads
 
-  pub words-printed : {m : ℕ} → end ≡ m → n ≡ m
-  words-printed e = all ∙ e
-
-  pub nodes-printed : (count k l : ℕ) {t : ℕ} → t ≡ min count k → end ≡ min t l → n ≡ min (min count k) l
-  nodes-printed count k l e f = all ∙ f ∙ ap (λ (m : ℕ). min m l) e
+  pub node_found : (place : ℕ) → place < length kinds → place < length loads →
+      slice_get (nodes_in kinds loads) place ≡ Some (record { 0 = get_or kinds place 0; 1 = get_or loads place 0 })
+  node_found place k l =
+      let e = length-zip kinds loads in
+      slice_get-map node_in (zip kinds loads) place ∙
+      rw (slice_get-get_or (zip kinds loads) place (0, 0) (omega arith), get_or-zip kinds loads place (0, 0) k l) refl

@@ -1,82 +1,94 @@
-// What the test programs print of a parse: the reply and the nodes, in one line.
+// What the test programs print of a parse, as texts: the reply, and the nodes.
 #![tactic(auto)]
 
-ghost use Rattle.std.specs.Prelude.{min, ◌≡◌, length};
-ghost use Rattle.show.specs.Count.{count_of};
+ghost use Rattle.std.specs.Prelude.{◌<◌, ◌≡◌, List, length, take, slice_get, map, Some};
+ghost use Rattle.codes.specs.declared.Node.{Node};
+ghost use Rattle.show.specs.Shown.{reply_text, nodes_text, node_of, nodes_in};
 
-use codes::Parsed;
-use numbers::{least, wide};
+use codes::{Node, Parsed};
+use std::fmt;
 
-fn print_number(number: u32) {
-    io::write_all(1, b" ");
-    io::print_decimal(1, number as u64);
-}
+// `ok` or `no` and the reply's numbers, as penne-nodes has them.
+#[derive(Clone, Copy)]
+pub struct Reply(pub Parsed);
 
-// `ok` or `no` and the reply's numbers, as penne-nodes has them. The result is the node count. What is written is free in
-// the promise, as below.
-pub fn print_reply(reply: Parsed) -> u32
-    ensures { result ≡ count_of reply }
-{
-    match reply {
-        Parsed::Node {
-            root,
-            cursor,
-            count,
-        } => {
-            io::write_all(1, b"ok");
-            print_number(root.0);
-            print_number(cursor.0);
-            print_number(count);
-            count
-        }
-        Parsed::Refused {
-            number,
-            start,
-            end,
-            cursor,
-            count,
-        } => {
-            io::write_all(1, b"no");
-            print_number(number);
-            print_number(start.0);
-            print_number(end.0);
-            print_number(cursor.0);
-            print_number(count);
-            count
+impl fmt::Display for Reply {
+    ghost output = { λ reply. Some (reply_text reply.0) };
+
+    fn fmt<W: fmt::Write>(&self, f: &mut fmt::Formatter<W>) -> fmt::Result {
+        match self.0 {
+            Ok(read) => { write!(f, "ok {} {} {}", read.value.0, read.cursor.0, read.count) }
+            Err(error) => {
+                write!(f, "no {} {} {}", error.number, error.start.0, error.end.0)?;
+                write!(f, " {} {}", error.cursor.0, error.count)
+            }
         }
     }
 }
 
-// The kind and the load of each node below the count, as far as there are slots, and the line's end. The result is how
-// many there were. What is written is free in the promise, which cannot speak of it: the programs' files `stdout` have it.
-pub fn print_nodes(node_kinds: &[u8], node_loads: &[u32], count: usize) -> usize
-    ensures { result ≡ min (min count (length node_kinds.now)) (length node_loads.now) }
-{
-    let end = least(least(count, node_kinds.len()), node_loads.len());
-    let mut n: usize = 0;
-    while n < end {
-        io::write_all(1, b",");
-        print_number(wide(node_kinds[n]));
-        print_number(node_loads[n]);
-        n += 1;
-    }
-    io::write_all(1, b"\n");
-    n
+// Nodes in a row, by their places: an iterator over them would have the type of a closure, which has no name that an impl
+// could give.
+pub trait Nodes {
+    ghost listed: { Self → List Node };
+
+    fn count(&self) -> usize
+        ensures { result ≡ length (listed self.now) };
+
+    fn node(&self, place: usize) -> Node
+        requires { place < length (listed self.now) }
+        ensures { slice_get (listed self.now) place ≡ Some result };
 }
 
-// The same of nodes that are a word each.
-pub fn print_words(node_words: &[u32], count: usize) -> usize
-    ensures { result ≡ min count (length node_words.now) }
-{
-    let end = least(count, node_words.len());
-    let mut n: usize = 0;
-    while n < end {
-        let word = node_words[n];
-        io::write_all(1, b",");
-        print_number(codes::word_kind(word) as u32);
-        print_number(codes::word_load(word));
-        n += 1;
+// Nodes in a column, each a word.
+impl Nodes for &[u32] {
+    ghost listed = { λ words. map node_of words.now };
+
+    fn count(&self) -> usize {
+        self.len()
     }
-    io::write_all(1, b"\n");
-    n
+
+    fn node(&self, place: usize) -> Node {
+        let word = self[place];
+        Node(codes::word_kind(word), codes::word_load(word))
+    }
+}
+
+// Nodes in two columns, as far as both have slots.
+#[derive(Clone, Copy)]
+pub struct Columns<'a> {
+    pub kinds: &'a [u8],
+    pub loads: &'a [u32],
+}
+
+#[tactic(auto, using(crate::proofs::Laws::nodes_counted, crate::proofs::Laws::node_found))]
+impl Nodes for Columns<'_> {
+    ghost listed = { λ columns. nodes_in columns.kinds.now columns.loads.now };
+
+    fn count(&self) -> usize {
+        self.kinds.len().min(self.loads.len())
+    }
+
+    fn node(&self, place: usize) -> Node {
+        Node(self.kinds[place], self.loads[place])
+    }
+}
+
+// The nodes below the count, as far as there are any: the kind and the load of each, after a comma.
+#[derive(Clone, Copy)]
+pub struct Shown<N> {
+    pub nodes: N,
+    pub count: usize,
+}
+
+impl<N: Nodes> fmt::Display for Shown<N> {
+    ghost output = { λ shown. Some (nodes_text (take shown.count (N.listed shown.nodes))) };
+
+    fn fmt<W: fmt::Write>(&self, f: &mut fmt::Formatter<W>) -> fmt::Result {
+        let nodes = &self.nodes;
+        for place in 0..self.count.min(nodes.count()) {
+            let Node(kind, load) = nodes.node(place);
+            write!(f, ", {kind} {load}")?;
+        }
+        Ok(())
+    }
 }

@@ -7,43 +7,21 @@
 
 ghost use Rattle.std.specs.Prelude.{◌≤◌, ◌<◌};
 
-use codes::{BaseToken, Parsed, Refusal, TokenId, ValueTypeKeyword};
+use codes::{BaseToken, Refusal, TokenId, ValueTypeKeyword};
 use kinds::tokens_pass;
+use std::io;
 
 // The longest row.
 const TOKENS: usize = 40;
 
-// The place of a bad token where there is none.
-const NONE: u32 = 65_535;
-
 // The last kind, which is good, and bad ones.
-fn tried_kind(choice: u32) -> u8 {
-    match choice {
-        0 => BaseToken::Error,
-        1 => 62,
-        2 => 63,
-        3 => 127,
-        4 => 128,
-        5 => 190,
-        _ => 255,
-    }
-}
+const KINDS: [u8; 7] = [BaseToken::Error, 62, 63, 127, 128, 190, 255];
 
 // The last value type, which is good, and the one after it.
-fn tried_type(choice: u32) -> u8 {
-    match choice {
-        0 => ValueTypeKeyword::Bool,
-        _ => 15,
-    }
-}
+const TYPES: [u8; 2] = [ValueTypeKeyword::Bool, 15];
 
-// How many kinds are tried, each with how many value types.
-const KINDS: u32 = 7;
-
-const CHOICES: u32 = 14;
-
-// The start of refusal 2, or none where another reply is given.
-fn found(kinds: &[u8], types: &[u8]) -> u32 {
+// The row's first bad token by refusal 2, none where another reply is given.
+fn found(kinds: &[u8], types: &[u8]) -> Option<usize> {
     let mut node_kinds = [0u8; 4];
     let mut node_loads = [0u32; 4];
     let reply = penne::parse_expression(
@@ -55,36 +33,9 @@ fn found(kinds: &[u8], types: &[u8]) -> u32 {
         0,
     );
     match reply {
-        Parsed::Node {
-            root: _,
-            cursor: _,
-            count: _,
-        } => NONE,
-        Parsed::Refused {
-            number,
-            start,
-            end: _,
-            cursor: _,
-            count: _,
-        } => {
-            if number == Refusal::BadToken {
-                start.0
-            } else {
-                NONE
-            }
-        }
+        Err(error) if error.number == Refusal::BadToken => Some(error.start.0 as usize),
+        _ => None,
     }
-}
-
-fn least(a: u32, b: u32) -> u32 {
-    if a < b { a } else { b }
-}
-
-// A token's place if it is bad.
-fn place_if(bad: bool, place: usize) -> u32
-    requires { place < 40 }
-{
-    if bad { place as u32 } else { NONE }
 }
 
 // Whether the row is answered right that has this kind and this value type at these places, and the last ones
@@ -92,82 +43,60 @@ fn place_if(bad: bool, place: usize) -> u32
 fn is_right(length: usize, kind_place: usize, type_place: usize, kind: u8, value_type: u8) -> bool
     requires { (length ≤ 40) × (kind_place < length) × (type_place < length) }
 {
-    let mut all_kinds = [BaseToken::Error; TOKENS];
-    let mut all_types = [ValueTypeKeyword::Bool; TOKENS];
-    all_kinds[kind_place] = kind;
-    all_types[type_place] = value_type;
-    let kinds = &all_kinds[..length];
-    let types = &all_types[..length];
-    let bad_kind = kind > BaseToken::Error;
-    let bad_type = value_type > ValueTypeKeyword::Bool;
-    let first = least(
-        place_if(bad_kind, kind_place),
-        place_if(bad_type, type_place),
-    );
+    let mut kinds = [BaseToken::Error; TOKENS];
+    let mut types = [ValueTypeKeyword::Bool; TOKENS];
+    kinds[kind_place] = kind;
+    types[type_place] = value_type;
+    let kinds = &kinds[..length];
+    let types = &types[..length];
+    let bad_kind = (kind > BaseToken::Error).then_some(kind_place);
+    let bad_type = (value_type > ValueTypeKeyword::Bool).then_some(type_place);
+    let first = bad_kind.into_iter().chain(bad_type).min();
     let passed = tokens_pass(kinds, types, BaseToken::Error, ValueTypeKeyword::Bool);
-    passed == (first == NONE) && found(kinds, types) == first
+    passed == first.is_none() && found(kinds, types) == first
 }
 
-fn counted(right: bool) -> u32
-    ensures { result ≤ 1 }
-{
-    if right { 1 } else { 0 }
-}
-
-// How many rows with bad tokens at these places are answered right.
-fn by_choice(length: usize, kind_place: usize, type_place: usize) -> u32
+// How many rows with tokens at these places are answered right, over each kind with each value type. These are numbered,
+// since a proof knows how many numbers a range has, and not how many pairs two tables give.
+fn by_choice(length: usize, kind_place: usize, type_place: usize) -> usize
     requires { (length ≤ 40) × (kind_place < length) × (type_place < length) }
     ensures { result ≤ 14 }
 {
-    let mut right: u32 = 0;
-    let mut choice: u32 = 0;
-    while choice < CHOICES {
-        let kind = tried_kind(choice % KINDS);
-        let value_type = tried_type(choice / KINDS);
-        right = right + counted(is_right(length, kind_place, type_place, kind, value_type));
-        choice = choice + 1;
-    }
-    right
+    (0..KINDS.len() * TYPES.len())
+        .filter(|choice| {
+            let kind = KINDS[*choice % KINDS.len()];
+            let value_type = TYPES[*choice / KINDS.len()];
+            is_right(length, kind_place, type_place, kind, value_type)
+        })
+        .count()
 }
 
-fn by_type_place(length: usize, kind_place: usize) -> u32
+// The same over all places of the value type. Not the sum of a map: a proof knows no bound of what its closure returns.
+fn by_type_place(length: usize, kind_place: usize) -> usize
     requires { (length ≤ 40) × (kind_place < length) }
     ensures { result ≤ 560 }
 {
-    let mut right: u32 = 0;
-    let mut type_place: usize = 0;
-    while type_place < length {
-        right = right + by_choice(length, kind_place, type_place);
-        type_place = type_place + 1;
+    let mut right = 0;
+    for type_place in 0..length {
+        right += by_choice(length, kind_place, type_place);
     }
     right
 }
 
-fn by_kind_place(length: usize) -> u32
+// The same over all places of both.
+fn by_kind_place(length: usize) -> usize
     requires { length ≤ 40 }
 {
-    let mut right: u32 = 0;
-    let mut kind_place: usize = 0;
-    while kind_place < length {
-        right = right + by_type_place(length, kind_place);
-        kind_place = kind_place + 1;
+    let mut right = 0;
+    for kind_place in 0..length {
+        right += by_type_place(length, kind_place);
     }
     right
 }
 
-fn print_length(length: usize)
-    requires { length ≤ 40 }
-{
-    io::print_decimal(1, length as u64);
-    io::write_all(1, b" ");
-    io::print_decimal(1, by_kind_place(length) as u64);
-    io::write_all(1, b"\n");
-}
-
-fn main() {
-    let mut length: usize = 1;
-    while length <= TOKENS {
-        print_length(length);
-        length = length + 1;
+fn main(rt: HostRuntime) -> io::Result<()> {
+    for length in 1..=TOKENS {
+        println!(rt; "{length} {}", by_kind_place(length))?;
     }
+    Ok(())
 }

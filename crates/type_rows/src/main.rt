@@ -2,56 +2,31 @@
 // reply, and the nodes up to the count.
 #![tactic(auto)]
 
-ghost use Rattle.std.specs.Prelude.{◌≤◌, ◌≡◌, length};
-ghost use Rattle.rules.specs.Codes.Limit as Limits;
+ghost use Rattle.std.specs.Prelude.{◌≤◌, length};
 
-use codes::{BaseToken, Limit, TokenId, ValueTypeKeyword};
+use codes::{BaseToken, Limit, TokenId, ValueTypeKeyword, node_count};
+use show::{Reply, Shown};
+use std::io;
+use tokens::Row;
 
 // What a slot holds before a node is appended there; no node has this kind.
 const UNUSED: u32 = 255;
 
-// There are 8 slots, of which so many are lent.
-fn show(text: &[u8], kinds: &[u8], types: &[u8], slots: usize)
-    requires { (length types.now ≡ length kinds.now) × (length kinds.now ≤ Limits.Tokens) × (slots ≤ 8) }
-{
-    let mut all_words = [UNUSED; 8];
-    let node_words = &mut all_words[..slots];
-    let reply = types::parse_type(kinds, types, node_words, TokenId(0), 0, Limit::Nesting);
-    io::write_all(1, text);
-    io::write_all(1, b": ");
-    let count = show::print_reply(reply);
-    show::print_words(node_words, count as usize);
-}
+// The slots, of which a row is lent some.
+const SLOTS: usize = 8;
 
-// A row of at most four tokens and EndOfSource; each value type is i32.
-fn show_short(text: &[u8], kinds: [u8; 5], slots: usize)
-    requires { slots ≤ 8 }
-{
-    let types = [ValueTypeKeyword::Int32; 5];
-    show(text, &kinds, &types, slots);
-}
+// The texts and kinds of rows of at most four tokens and EndOfSource.
+type ShortRow = (&'static str, [u8; 5]);
 
-// So many ampersands before i32.
-fn show_pointers(text: &[u8], ampersands: usize)
-    requires { ampersands ≤ 40 }
-{
-    let mut kinds = [BaseToken::Ampersand; 42];
-    kinds[ampersands] = BaseToken::ValueTypeKeyword;
-    kinds[ampersands + 1] = BaseToken::EndOfSource;
-    let types = [ValueTypeKeyword::Int32; 42];
-    show(text, &kinds, &types, 8);
-}
-
-fn show_accepted() {
-    show_short(b"i32", [BaseToken::ValueTypeKeyword, 0, 0, 0, 0], 8);
-    show_short(
-        b"&i32",
+const ACCEPTED: [ShortRow; 9] = [
+    ("i32", [BaseToken::ValueTypeKeyword, 0, 0, 0, 0]),
+    (
+        "&i32",
         [BaseToken::Ampersand, BaseToken::ValueTypeKeyword, 0, 0, 0],
-        8,
-    );
-    show_short(b"T", [BaseToken::Identifier, 0, 0, 0, 0], 8);
-    show_short(
-        b"(i32)",
+    ),
+    ("T", [BaseToken::Identifier, 0, 0, 0, 0]),
+    (
+        "(i32)",
         [
             BaseToken::ParenLeft,
             BaseToken::ValueTypeKeyword,
@@ -59,10 +34,9 @@ fn show_accepted() {
             0,
             0,
         ],
-        8,
-    );
-    show_short(
-        b"[]T",
+    ),
+    (
+        "[]T",
         [
             BaseToken::BracketLeft,
             BaseToken::BracketRight,
@@ -70,10 +44,9 @@ fn show_accepted() {
             0,
             0,
         ],
-        8,
-    );
-    show_short(
-        b"[:]T",
+    ),
+    (
+        "[:]T",
         [
             BaseToken::BracketLeft,
             BaseToken::Colon,
@@ -81,10 +54,9 @@ fn show_accepted() {
             BaseToken::Identifier,
             0,
         ],
-        8,
-    );
-    show_short(
-        b"[..]T",
+    ),
+    (
+        "[..]T",
         [
             BaseToken::BracketLeft,
             BaseToken::Dots,
@@ -92,13 +64,9 @@ fn show_accepted() {
             BaseToken::Identifier,
             0,
         ],
-        8,
-    );
-}
-
-fn show_sized() {
-    show_short(
-        b"[3]T",
+    ),
+    (
+        "[3]T",
         [
             BaseToken::BracketLeft,
             BaseToken::NakedDecimal,
@@ -106,10 +74,9 @@ fn show_sized() {
             BaseToken::Identifier,
             0,
         ],
-        8,
-    );
-    show_short(
-        b"[N]T",
+    ),
+    (
+        "[N]T",
         [
             BaseToken::BracketLeft,
             BaseToken::Identifier,
@@ -117,13 +84,12 @@ fn show_sized() {
             BaseToken::Identifier,
             0,
         ],
-        8,
-    );
-}
+    ),
+];
 
-fn show_refused() {
-    show_short(
-        b"13 [3 T",
+const REFUSED: [ShortRow; 4] = [
+    (
+        "13 [3 T",
         [
             BaseToken::BracketLeft,
             BaseToken::NakedDecimal,
@@ -131,45 +97,60 @@ fn show_refused() {
             0,
             0,
         ],
-        8,
-    );
-    show_short(
-        b"15 (i32",
+    ),
+    (
+        "15 (i32",
         [BaseToken::ParenLeft, BaseToken::ValueTypeKeyword, 0, 0, 0],
-        8,
-    );
-    show_short(
-        b"19 [+",
-        [BaseToken::BracketLeft, BaseToken::Plus, 0, 0, 0],
-        8,
-    );
-    show_short(b"20 &", [BaseToken::Ampersand, 0, 0, 0, 0], 8);
-    show_short(
-        b"33 &i32, no slot",
-        [BaseToken::Ampersand, BaseToken::ValueTypeKeyword, 0, 0, 0],
-        0,
-    );
-    show_short(
-        b"33 &i32, 1 slot",
-        [BaseToken::Ampersand, BaseToken::ValueTypeKeyword, 0, 0, 0],
-        1,
-    );
-    show_short(
-        b"33 &i32, 2 slots",
-        [BaseToken::Ampersand, BaseToken::ValueTypeKeyword, 0, 0, 0],
-        2,
-    );
-    show_short(
-        b"33 &i32, 3 slots",
-        [BaseToken::Ampersand, BaseToken::ValueTypeKeyword, 0, 0, 0],
-        3,
-    );
-    show_pointers(b"33 39 &", 39);
-    show_pointers(b"34 40 &", 40);
+    ),
+    ("19 [+", [BaseToken::BracketLeft, BaseToken::Plus, 0, 0, 0]),
+    ("20 &", [BaseToken::Ampersand, 0, 0, 0, 0]),
+];
+
+// The texts of a pointer's row by how many slots it is lent, which are too few.
+const TOO_FEW_SLOTS: [&str; 4] = [
+    "33 &i32, no slot",
+    "33 &i32, 1 slot",
+    "33 &i32, 2 slots",
+    "33 &i32, 3 slots",
+];
+
+const POINTER: [u8; 3] = [BaseToken::Ampersand, BaseToken::ValueTypeKeyword, 0];
+
+// The reply to a row whose value types are i32, with so many slots.
+fn show(rt: &impl Print, text: &str, kinds: &[u8], slots: usize) -> io::Result<()>
+    requires { (length kinds.now ≤ 42) × (slots ≤ 8) }
+{
+    let row = Row {
+        kinds,
+        types: &[ValueTypeKeyword::Int32; 42][..kinds.len()],
+    };
+    let mut all_words = [UNUSED; SLOTS];
+    let node_words = &mut all_words[..slots];
+    let reply = types::parse_type(&row, node_words, TokenId(0), 0, Limit::Nesting);
+    let shown = Shown {
+        nodes: &*node_words,
+        count: node_count(reply) as usize,
+    };
+    println!(rt; "{text}: {}{shown}", Reply(reply))
 }
 
-fn main() {
-    show_accepted();
-    show_sized();
-    show_refused();
+// So many ampersands before i32.
+fn show_pointers(rt: &impl Print, text: &str, ampersands: usize) -> io::Result<()>
+    requires { ampersands ≤ 40 }
+{
+    let mut kinds = [BaseToken::Ampersand; 42];
+    kinds[ampersands] = BaseToken::ValueTypeKeyword;
+    kinds[ampersands + 1] = BaseToken::EndOfSource;
+    show(rt, text, &kinds, SLOTS)
+}
+
+fn main(rt: HostRuntime) -> io::Result<()> {
+    for (text, kinds) in ACCEPTED.iter().chain(&REFUSED) {
+        show(&rt, text, kinds, SLOTS)?;
+    }
+    for (slots, text) in TOO_FEW_SLOTS.iter().enumerate() {
+        show(&rt, text, &POINTER, slots)?;
+    }
+    show_pointers(&rt, "33 39 &", 39)?;
+    show_pointers(&rt, "34 40 &", 40)
 }

@@ -1,4 +1,5 @@
--- A value in a local is lent for a call, by `&mut` or by `&`, and comes back: after a `&mut` at its last value.
+-- A value in a local is lent for a call, by `&mut` or by `&`, and comes back: after a `&mut` at its last value. And what
+-- lies in memory, in a local or within a value behind a reference, is lent by `&`.
 use Prim.Native.Nat.{ℕ}
 use mathlib.Core.List.{List, [], ◌∷◌}
 use seplogic.Ra.Ura.{Ura}
@@ -10,10 +11,11 @@ use base.Logic.{ent, wand, ex, apply∗}
 use base.Fml.{Lft, Incl-refl, GName, Share, Fml, flft, fdead, fres, flent}
 use types.Logic.{Logic}
 use contract.BorrowLft.{meet_⊑_left, meet_⊑_right}
-use types.Kit.{Item, ‵, raw, mean, ◌⊛◌, ⋆, some, later, ◌$◌, ◌∵◌, !, qed, move, use1, use2, use3, split}
+use types.Kit.{Item, ‵, raw, mean, ◌⊛◌, ⋆, some, later, ◌$◌, ◌∵◌, !, qed, by, move, use1, use2, use3, split}
 use types.Kit.{pick, await, updating, now as at_once, show, done}
 use types.SemTy.{Body}
 use types.Tokens.{lft_new, lft_end, lent_back}
+use denote.RattleType.{RattleType}
 use denote.Lend.{lends_ref, ref_back, lends_shr}
 use denote.Memory.{mem, part_at, shared_of}
 use denote.Ref.{MutBor, MutRef, ShrRef}
@@ -60,6 +62,50 @@ module _ (κ : Lft) (q : Share) where
           use1 𝓛 (‵ (fdead (ν ∷ κ))) (𝓛.lfts.dead-incl (ν ∷ κ) (ν ∷ []) (meet_⊑_left (ν ∷ []) κ)) $ at_once ! $
           done !
 
+-- What lies at (b, o) is shared for the meet, where its type says how a `&` is made, and comes back.
+module _ (R : RattleType) (h : R.Denot) (b o : ℕ) where
+  abbrev pub ShrAt : Lft → Fml
+  ShrAt κ = (ShrRef (named 0) κ R).own_val (record { ref_ptr = (b, o); now = h }) (vptr b o ∷ [])
+
+  module _ (κ : Lft) (q : Share) {M : Type 1} {𝓤 : Ura M} (𝓛 : Logic 𝓤) where
+    open 𝓛 use {H}
+
+    -- what is kept meanwhile: the loan, and the way back to ν's token
+    abbrev pub KeptAt : ℕ → Item 𝓤
+    KeptAt ν = ‵ (flent (ν ∷ κ) (part_at R full_share h b o)) ⊛ Way κ q 𝓛 ν
+
+    abbrev pub SharedAt : ℕ → Item 𝓤
+    SharedAt ν = ‵ (ShrAt (ν ∷ κ)) ⊛ ‵ (Short κ q ν) ⊛ ‵ (Long κ q) ⊛ KeptAt ν
+
+    pub shares-at :
+        SharesAt 𝓛 R h (shared_of R h) κ →
+        ent 𝓤 (⋆ 𝓛 (‵ (part_at R full_share h b o) ∷ ‵ (flft κ q) ∷ []))
+        (H.⇛ (ex 𝓤 (λ (ν : ℕ). mean 𝓛 (SharedAt ν))))
+    shares-at s =
+        qed 𝓛 (‵ (part_at R full_share h b o) ∷ ‵ (flft κ q) ∷ []) ∵ updating ! $
+        lft_new ! tt (λ ν. move ! (0 ∷ 2 ∷ []) $
+        use2 𝓛 (‵ (Short κ q ν) ⊛ ‵ (Long κ q) ⊛ Way κ q 𝓛 ν) (tokens-out κ q 𝓛 ν) $ split ! $
+        -- [the token of the meet; the rest of κ's token and the way back to ν's; what lies there]
+        move ! (2 ∷ 0 ∷ []) $
+        use2 𝓛 (later ((‵ (ShrAt (ν ∷ κ)) ⊛ ‵ (flent (ν ∷ κ) (part_at R full_share h b o))) ⊛ ‵ (Short κ q ν)))
+        (lends_shr 𝓛 R (named 0) (ν ∷ κ) full_share h b o κ s ((ν ∷ κ, Share.left q) ∷ []) (meet_⊑_right (ν ∷ []) κ)
+        (Incl-refl (ν ∷ κ))) $
+        await ! tt $ split ! $ split ! $ move ! (3 ∷ []) $ split ! $
+        -- [the rest of κ's token; the way back to ν's; the reference; the loan; the token of the meet]
+        at_once ! $ show ! (λ (ν : ℕ). mean 𝓛 (SharedAt ν)) ν $
+        move ! (2 ∷ 4 ∷ 0 ∷ 3 ∷ 1 ∷ []) $ done !)
+
+    pub back-at :
+        (ν : ℕ) →
+        ent 𝓤 (⋆ 𝓛 (‵ (Short κ q ν) ∷ ‵ (Long κ q) ∷ KeptAt ν ∷ []))
+        (H.⇛ (⋆ 𝓛 (‵ (part_at R full_share h b o) ∷ ‵ (flft κ q) ∷ [])))
+    back-at ν =
+        qed 𝓛 (‵ (Short κ q ν) ∷ ‵ (Long κ q) ∷ KeptAt ν ∷ []) ∵ updating ! $ move ! (2 ∷ []) $ split ! $
+        move ! (2 ∷ 3 ∷ 1 ∷ []) $
+        use3 𝓛 (later (‵ (fdead (ν ∷ κ)) ⊛ ‵ (flft κ q))) (tokens-back κ q 𝓛 ν) $ await ! tt $ split ! $
+        -- [the end of the meet; κ's token; the loan]
+        move ! (0 ∷ 2 ∷ []) $ lent_back ! tt $ at_once ! $ done !
+
 module _ (T : Whole) (l : ℕ) where
   -- the references to the local, and the loan: what the lender has of it
   abbrev pub ref : GName → T.row.Denot → MutBor T.row.Denot
@@ -72,7 +118,7 @@ module _ (T : Whole) (l : ℕ) where
   Loan κ γ = flent κ (Body (mem T.row) l 0 γ)
 
   abbrev pub Shr : Lft → T.row.Denot → Fml
-  Shr κ h = (ShrRef (named 0) κ T.row).own_val (record { ref_ptr = (l, 0); now = h }) (vptr l 0 ∷ [])
+  Shr κ h = ShrAt T.row h l 0 κ
 
   -- a value that holds no reference is lent for a lifetime ν of its own
   module _ {M : Type 1} {𝓤 : Ura M} (𝓛 : Logic 𝓤) (h : T.row.Denot) where
@@ -119,7 +165,7 @@ module _ (T : Whole) (l : ℕ) where
     Kept ν γ = ‵ (Loan (ν ∷ κ) γ) ⊛ Way κ q 𝓛 ν
 
     abbrev pub KeptShr : T.row.Denot → ℕ → Item 𝓤
-    KeptShr h ν = ‵ (flent (ν ∷ κ) (part_at T.row full_share h l 0)) ⊛ Way κ q 𝓛 ν
+    KeptShr h = KeptAt T.row h l 0 κ q 𝓛
 
     abbrev pub LentWithin : T.row.Denot → ℕ → GName → Item 𝓤
     LentWithin h ν γ = ‵ (Ref (ν ∷ κ) γ h) ⊛ ‵ (Short κ q ν) ⊛ ‵ (Long κ q) ⊛ Kept ν γ
@@ -165,27 +211,13 @@ module _ (T : Whole) (l : ℕ) where
           SharesAt 𝓛 T.row h (shared_of T.row h) κ →
           ent 𝓤 (⋆ 𝓛 (Start h)) (H.⇛ (ex 𝓤 (λ (ν : ℕ). mean 𝓛 (SharedWithin h ν))))
       shares-within s =
-          qed 𝓛 (Start h) ∵ updating ! $
-          use2 𝓛 (‵ (part_at T.row full_share h l 0)) (lies_in T 𝓛 h l 0) $
-          lft_new ! tt (λ ν. move ! (0 ∷ 2 ∷ []) $
-          use2 𝓛 (‵ (Short κ q ν) ⊛ ‵ (Long κ q) ⊛ Way κ q 𝓛 ν) (tokens-out κ q 𝓛 ν) $ split ! $
-          -- [the token of the meet; the rest of κ's token and the way back to ν's; what lies there]
-          move ! (2 ∷ 0 ∷ []) $
-          use2 𝓛 (later ((‵ (Shr (ν ∷ κ) h) ⊛ ‵ (flent (ν ∷ κ) (part_at T.row full_share h l 0))) ⊛ ‵ (Short κ q ν)))
-          (lends_shr 𝓛 T.row (named 0) (ν ∷ κ) full_share h l 0 κ s ((ν ∷ κ, Share.left q) ∷ []) (meet_⊑_right
-          (ν ∷ []) κ) (Incl-refl (ν ∷ κ))) $
-          await ! tt $ split ! $ split ! $ move ! (3 ∷ []) $ split ! $
-          -- [the rest of κ's token; the way back to ν's; the reference; the loan; the token of the meet]
-          at_once ! $ show ! (λ (ν : ℕ). mean 𝓛 (SharedWithin h ν)) ν $
-          move ! (2 ∷ 4 ∷ 0 ∷ 3 ∷ 1 ∷ []) $ done !)
+          qed 𝓛 (Start h) ∵ use2 𝓛 (‵ (part_at T.row full_share h l 0)) (lies_in T 𝓛 h l 0) $
+          by ! (shares-at T.row h l 0 κ q 𝓛 s)
 
       pub share_back :
           (ν : ℕ) → ent 𝓤 (⋆ 𝓛 (‵ (Short κ q ν) ∷ ‵ (Long κ q) ∷ KeptShr h ν ∷ [])) (H.⇛ (⋆ 𝓛 (Start h)))
       share_back ν =
-          qed 𝓛 (‵ (Short κ q ν) ∷ ‵ (Long κ q) ∷ KeptShr h ν ∷ []) ∵ updating ! $ move ! (2 ∷ []) $ split ! $
-          move ! (2 ∷ 3 ∷ 1 ∷ []) $
-          use3 𝓛 (later (‵ (fdead (ν ∷ κ)) ⊛ ‵ (flft κ q))) (tokens-back κ q 𝓛 ν) $ await ! tt $ split ! $
-          -- [the end of the meet; κ's token; the loan]
-          move ! (0 ∷ 2 ∷ []) $ lent_back ! tt $
-          use1 𝓛 (‵ (Cell T full_share h l 0) ⊛ ‵ (Own T h)) (lies_out T 𝓛 h l 0) $ split ! $ at_once ! $
-          done !
+          qed 𝓛 (‵ (Short κ q ν) ∷ ‵ (Long κ q) ∷ KeptShr h ν ∷ []) ∵ updating ! $
+          use3 𝓛 (later (‵ (part_at T.row full_share h l 0) ⊛ ‵ (flft κ q))) (back-at T.row h l 0 κ q 𝓛 ν) $
+          await ! tt $ split ! $ use1 𝓛 (‵ (Cell T full_share h l 0) ⊛ ‵ (Own T h)) (lies_out T 𝓛 h l 0) $ split ! $
+          at_once ! $ done !

@@ -1,5 +1,5 @@
--- A type that owns only facts, as a walk uses one that it does not name: a number, a struct or an enum of those. And a
--- struct of two fields of such types.
+-- A type that owns only facts, as a walk uses one that it does not name: a number, a struct or an enum of those, and an
+-- Option or a Result of them. And a struct of two fields of such types.
 use mathlib.Core.Path.{◌≡◌, refl, sym, subst}
 use mathlib.Core.List.{List, [], ◌∷◌}
 use seplogic.Ra.Ura.{Ura}
@@ -18,6 +18,16 @@ use denote.Struct.Laws as LL
 use denote.Enum.Enum.{Few, Plainss, layout as enumLayout}
 use denote.Enum.Declared as E
 use denote.Enum.Laws as EL
+use denote.Param.Laws.{Laws, Told, IsCopy, of_field, field_told, of_copyable}
+use denote.Param.Plain.{IsPlain}
+use denote.Param.Shared.{copy_shared}
+use denote.Struct.Field.{unit-field}
+use denote.Struct.Laws.{unit-laws, unit-copy, unit-plain}
+use Rattle.std.specs.Prelude.{Some, Ok, Err}
+use Rattle.std.specs.contracts.option.Option as O
+use Rattle.std.proofs.option.Option.TheLaws as O'
+use Rattle.std.specs.contracts.result.Result as Q
+use Rattle.std.proofs.result.Result.TheLaws as Q'
 
 -- the machine value of each value, that it can be no other and is of the type, and that a value is owned for nothing
 -- and is at a function's exit what it was
@@ -118,3 +128,67 @@ module _ {F G : Plain} (S : Pair F G) where
 
   abbrev pub val_of : F.row.Denot → G.row.Denot → Val
   val_of x y = vstruct (vcons (F.val x) (vcons (G.val y) vnil))
+
+-- a type that owns only facts, as an argument of a generic type
+pub record Argument : Type 2 where
+  pub row : RattleType
+  pub laws : Laws row
+  pub told : Told row
+  pub plain : IsPlain row
+  pub copy : IsCopy row
+
+abbrev pub nothing : Argument
+nothing = record {
+  row = unit-field.row;
+  laws = of_field unit-field unit-laws refl (copy_shared unit-field unit-copy);
+  told = field_told unit-field unit-laws;
+  plain = unit-plain;
+  copy = of_copyable unit-field unit-copy;
+}
+
+-- such values of the generic types of std, and their cases
+module _ (A : Argument) where
+  abbrev D-option : E.Declared
+  D-option = O.the_type A.row
+
+  abbrev L-option : EL.Laws D-option
+  L-option = O'.the_laws A.row A.laws A.told
+
+  abbrev pub option : Plain
+  option = enum D-option L-option tt (O'.the_plain A.row A.plain) (O'.the_copy A.row A.laws A.copy)
+
+  abbrev pub option-of : Argument
+  option-of = record {
+    row = option.row;
+    laws = O'.the_row_laws A.row A.laws;
+    told = O'.the_told A.row A.laws A.told;
+    plain = O'.the_row_plain A.row A.plain;
+    copy = O'.the_row_copy A.row A.laws A.copy;
+  }
+
+  pub owed-some : (x : A.row.Denot) (vs : List Val) → Is option.row (Some x) vs → Is A.row x (A.told.val x ∷ [])
+  owed-some x vs is = (EL.owed D-option L-option (Some x) vs is).0
+
+  module _ (B : Argument) where
+    abbrev D-result : E.Declared
+    D-result = Q.the_type A.row B.row
+
+    abbrev L-result : EL.Laws D-result
+    L-result = Q'.the_laws A.row B.row A.laws B.laws A.told B.told
+
+    abbrev pub result : Plain
+    result =
+        enum D-result L-result tt (Q'.the_plain A.row B.row A.plain B.plain)
+        (Q'.the_copy A.row B.row A.laws B.laws A.copy B.copy)
+
+    pub owed-ok : (x : A.row.Denot) (vs : List Val) → Is result.row (Ok x) vs → Is A.row x (A.told.val x ∷ [])
+    owed-ok x vs is = (EL.owed D-result L-result (Ok x) vs is).0
+
+    pub owed-err : (y : B.row.Denot) (vs : List Val) → Is result.row (Err y) vs → Is B.row y (B.told.val y ∷ [])
+    owed-err y vs is = (EL.owed D-result L-result (Err y) vs is).0
+
+    pub owes-ok : (x : A.row.Denot) → Is A.row x (A.told.val x ∷ []) → Is result.row (Ok x) (result.val (Ok x) ∷ [])
+    owes-ok x is = EL.owes D-result L-result (Ok x) (is, tt)
+
+    pub owes-err : (y : B.row.Denot) → Is B.row y (B.told.val y ∷ []) → Is result.row (Err y) (result.val (Err y) ∷ [])
+    owes-err y is = EL.owes D-result L-result (Err y) (is, tt)

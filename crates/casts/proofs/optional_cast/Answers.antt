@@ -1,3 +1,4 @@
+-- `casts::optional_cast` meets its contract: a law for each return, found among the facts of its path.
 use Rattle.casts.proofs.Laws.{cast-alone, cast-optional}
 use borrow.Author.Rules.{rules}
 use Rattle.casts.proofs.optional_cast.Goals as goal

@@ -1,24 +1,29 @@
-use mathlib.Core.Path.{refl}
+-- `casts::parse_casts` meets its contract: a law for each return, and what its loop keeps.
+use Rattle.codes.proofs.Onto.{returned}
 use Rattle.tokens.proofs.Bounds.{past-optional}
 use Rattle.casts.proofs.Bounds.{after-as, as-root, as-less}
 use Rattle.casts.proofs.Laws.{casts-first, casts-last, casts-stopped, casts-again}
 use borrow.Author.Rules.{rules}
 use Rattle.casts.proofs.parse_casts.Goals as goal
 
-pub loop-start-init : goal.loop-start-init
-loop-start-init c = (refl, search rules, search rules, casts-first _ _ _ _ _ _)
+pub loop-cursor-init : goal.loop-cursor-init
+loop-cursor-init c = (search rules, search rules, casts-first _ _ _ _ _ _)
 
-pub returns-then-not-found : goal.returns-then-not-found
-returns-then-not-found c = search (rules, casts-last)
+pub coerce-requires : goal.coerce-requires
+coerce-requires c = (search (rules, past-optional), search rules)
 
-pub coerce-cast-requires : goal.coerce-cast-requires
-coerce-cast-requires c = (search (rules, past-optional), search rules)
+pub returns-in_err-whole : goal.returns-in_err-whole
+returns-in_err-whole c = returned c.from_residual.ensures.1 (search (rules, casts-stopped, c.in_err-whole.was))
 
-pub returns-in_default : goal.returns-in_default
-returns-in_default c = search (rules, casts-stopped)
+pub loop-cursor-smaller : goal.loop-cursor-smaller
+loop-cursor-smaller c = search (rules, as-less, c.in_ok-whole.was)
 
-pub loop-start-smaller : goal.loop-start-smaller
-loop-start-smaller c = search (rules, as-less)
+pub loop-cursor-preserved : goal.loop-cursor-preserved
+loop-cursor-preserved c = (
+  search (rules, after-as, c.in_ok-whole.was),
+  search (rules, as-root, c.in_ok-whole.was),
+  search (rules, casts-again, c.in_ok-whole.was),
+)
 
-pub loop-start-preserved : goal.loop-start-preserved
-loop-start-preserved c = (search rules, search (rules, after-as), search (rules, as-root), search (rules, casts-again))
+pub returns : goal.returns
+returns c = search (rules, casts-last)

@@ -1,5 +1,4 @@
 use Prim.Native.Nat.{◌-◌, ◌≤◌}
-use mathlib.Core.Path.{◌≡◌}
 use lib.ListN.{length}
 use Rattle.rules.specs.Codes.Limit as Limit
 use Rattle.rules.specs.Words.{words}
@@ -9,11 +8,14 @@ use Rattle.codes.specs.Words.{Sized, nodes}
 use Rattle.casts.proofs.Laws.{Casts}
 use Rattle.casts.proofs.parse_casts.Given as goal
 
-abbrev pub invariant-loop-start : goal.invariant-loop-start
-invariant-loop-start l =
-    (length l.node_words ≡ length l.initial.node_words) × Sized l.kinds l.types l.node_words l.at l.used × (l.root ≤ Limit.Load) ×
-    Casts l.kinds l.types (type words (row l.kinds l.types) l.unused) l.initial.root l.initial.at (nodes l.initial.node_words l.initial.used) l.root l.at
-    (nodes l.node_words l.used)
+abbrev pub invariant-loop-cursor : goal.invariant-loop-cursor
+invariant-loop-cursor l =
+    Sized l.row.kinds.now l.row.types.now l.node_words l.whole.cursor.0 l.whole.count ×
+    (l.whole.value.0 ≤ Limit.Load) ×
+    Casts l.row.kinds.now l.row.types.now
+    (type words (row l.row.kinds.now l.row.types.now) l.unused) l.initial.whole.value.0
+    l.initial.whole.cursor.0 (nodes l.initial.node_words l.initial.whole.count) l.whole.value.0
+    l.whole.cursor.0 (nodes l.node_words l.whole.count)
 
-abbrev pub decreases-loop-start : goal.decreases-loop-start
-decreases-loop-start l = length l.kinds - l.at
+abbrev pub decreases-loop-cursor : goal.decreases-loop-cursor
+decreases-loop-cursor l = length l.row.kinds.now - l.whole.cursor.0

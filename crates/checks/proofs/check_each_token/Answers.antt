@@ -1,18 +1,13 @@
-use Rattle.checks.proofs.Laws.{bad_kind, bad-type, good-token, good-tokens, all_left}
+use Rattle.checks.proofs.Laws.{bad-found, bad-place, none-found}
+use Rattle.std.proofs.Common.{arith}
 use borrow.Author.Rules.{rules}
 use Rattle.checks.proofs.check_each_token.Goals as goal
 
-pub loop-place-init : goal.loop-place-init
-loop-place-init c = (search rules, search (rules, all_left))
+pub overflow_cast-result : goal.overflow_cast-result
+overflow_cast-result c = let b = bad-place _ _ c.requires.0 c.in-Some.ensures in omega arith
 
-pub returns-then-kinds-place-gt-Error : goal.returns-then-kinds-place-gt-Error
-returns-then-kinds-place-gt-Error c = search (rules, bad_kind)
+pub returns-in-Some : goal.returns-in-Some
+returns-in-Some c = search (rules, bad-found, c.in-Some.ensures)
 
-pub returns-then-types-place-gt-Bool : goal.returns-then-types-place-gt-Bool
-returns-then-types-place-gt-Bool c = search (rules, bad-type)
-
-pub loop-place-preserved : goal.loop-place-preserved
-loop-place-preserved c = (search rules, search (rules, good-token))
-
-pub returns : goal.returns
-returns c = search (rules, good-tokens)
+pub returns-in-None : goal.returns-in-None
+returns-in-None c = search (rules, none-found, c.in-None.ensures)

@@ -1,15 +1,9 @@
-use Rattle.checks.proofs.Laws.{other-slots, too-many-slots, count-above, count_fits}
+use Rattle.checks.proofs.Laws.{passes, refuses, ends}
 use borrow.Author.Rules.{rules}
 use Rattle.checks.proofs.check_slots.Goals as goal
 
-pub returns-then-loads-slots : goal.returns-then-loads-slots
-returns-then-loads-slots c = search (rules, other-slots)
+pub returns-in_err-check_columns : goal.returns-in_err-check_columns
+returns-in_err-check_columns c = search (rules, refuses, c.in_err-check_columns.was, c.from_residual.ensures.1)
 
-pub returns-then-slots : goal.returns-then-slots
-returns-then-slots c = search (rules, too-many-slots)
-
-pub returns-then-count-slots : goal.returns-then-count-slots
-returns-then-count-slots c = search (rules, count-above)
-
-pub returns-else-count-slots : goal.returns-else-count-slots
-returns-else-count-slots c = search (rules, count_fits)
+pub returns : goal.returns
+returns c = search (rules, passes, ends, c.in_ok-check_columns.was)

@@ -1,3 +1,4 @@
+-- `declarations::opaque_flags` meets its contract: a law for each return, found among the facts of its path.
 use Rattle.declarations.proofs.Laws.{opaque-added, opaque-there}
 use borrow.Author.Rules.{rules}
 use Rattle.declarations.proofs.opaque_flags.Goals as goal

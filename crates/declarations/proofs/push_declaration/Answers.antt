@@ -1,13 +1,15 @@
+-- `declarations::push_declaration` meets its contract: a law for each return, found among the facts of its path.
+use Rattle.codes.proofs.Onto.{returned}
 use Rattle.declarations.proofs.Laws.{declaration-refused, declaration-pushed}
 use Rattle.nodes.proofs.Bounds.{two-slots}
 use borrow.Author.Rules.{rules}
 use Rattle.declarations.proofs.push_declaration.Goals as goal
 
-pub returns-in_default : goal.returns-in_default
-returns-in_default c = search (rules, declaration-refused)
+pub returns-in_err-cursor : goal.returns-in_err-cursor
+returns-in_err-cursor c = returned c.from_residual.ensures.1 (search (rules, declaration-refused, c.in_err-cursor.was))
 
 pub push-requires : goal.push-requires
-push-requires c = (search (rules, two-slots), search rules)
+push-requires c = (search (rules, two-slots, c.in_ok-cursor.was), search rules)
 
 pub returns : goal.returns
-returns c = search (rules, declaration-pushed)
+returns c = search (rules, declaration-pushed, c.in_ok-cursor.was)

@@ -1,24 +1,26 @@
+-- `declarations::push_opaque_struct` meets its contract: a law for each return, found among the facts of its path.
+use Rattle.codes.proofs.Onto.{returned}
 use Rattle.declarations.proofs.Laws.{opaque-stopped, opaque-pushed}
 use Rattle.declarations.proofs.Bounds.{none-fits, opaque-fits}
 use Rattle.nodes.proofs.Bounds.{end-slots, end-root}
 use borrow.Author.Rules.{rules}
 use Rattle.declarations.proofs.push_opaque_struct.Goals as goal
 
-pub push_end_of_list-list-requires : goal.push_end_of_list-list-requires
-push_end_of_list-list-requires c = (search rules, search (rules, none-fits))
+pub push_end_of_list-requires : goal.push_end_of_list-requires
+push_end_of_list-requires c = (search rules, search (rules, none-fits))
 
-pub returns-in_default : goal.returns-in_default
-returns-in_default c = search (rules, opaque-stopped)
+pub returns-in_err-cursor : goal.returns-in_err-cursor
+returns-in_err-cursor c = returned c.from_residual.ensures.1 (search (rules, opaque-stopped, c.in_err-cursor.was))
 
 pub push_structure-requires : goal.push_structure-requires
 push_structure-requires c = (
-  search (rules, end-slots),
+  search (rules, end-slots, c.in_ok-cursor.was),
   search rules,
   search (rules, opaque-fits),
   search rules,
   search rules,
-  search (rules, end-root, none-fits),
+  search (rules, end-root, none-fits, c.in_ok-cursor.was),
 )
 
 pub returns : goal.returns
-returns c = search (rules, opaque-pushed)
+returns c = search (rules, opaque-pushed, c.in_ok-cursor.was)

@@ -1,13 +1,15 @@
+-- `declarations::push_structure` meets its contract: a law for each return, found among the facts of its path.
+use Rattle.codes.proofs.Onto.{returned}
 use Rattle.declarations.proofs.Laws.{structure-refused, structure-pushed}
 use Rattle.nodes.proofs.Bounds.{two-slots}
 use borrow.Author.Rules.{rules}
 use Rattle.declarations.proofs.push_structure.Goals as goal
 
-pub returns-in_default : goal.returns-in_default
-returns-in_default c = search (rules, structure-refused)
+pub returns-in_err-cursor : goal.returns-in_err-cursor
+returns-in_err-cursor c = returned c.from_residual.ensures.1 (search (rules, structure-refused, c.in_err-cursor.was))
 
 pub push_declaration-requires : goal.push_declaration-requires
-push_declaration-requires c = (search (rules, two-slots), search rules, search rules, search rules)
+push_declaration-requires c = (search (rules, two-slots, c.in_ok-cursor.was), search rules, search rules, search rules)
 
 pub returns : goal.returns
-returns c = search (rules, structure-pushed)
+returns c = search (rules, structure-pushed, c.in_ok-cursor.was)

@@ -1,12 +1,10 @@
-use Rattle.declarations.proofs.Laws.{word_size, last-size, below-words, above-words, one, two, four, eight}
+-- `declarations::size_of_word` meets its contract: a law for each return, found among the facts of its path.
+use Rattle.declarations.proofs.Laws.{word_size, last-size, outside-words, one, two, four, eight}
 use borrow.Author.Rules.{rules}
 use Rattle.declarations.proofs.size_of_word.Goals as goal
 
 pub returns-then-kind-lt-Word8 : goal.returns-then-kind-lt-Word8
-returns-then-kind-lt-Word8 c = search (rules, below-words)
-
-pub returns-then-kind-gt-Word128 : goal.returns-then-kind-gt-Word128
-returns-then-kind-gt-Word128 c = search (rules, above-words)
+returns-then-kind-lt-Word8 c = outside-words _ c.then-kind-lt-Word8.either
 
 pub returns-in-47 : goal.returns-in-47
 returns-in-47 c = search (rules, word_size, one)

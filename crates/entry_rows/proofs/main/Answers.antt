@@ -9,5 +9,5 @@ slice_bounds-read_full-end c = sym (length-replicate {0} {A = ℕ} 524288 0)
 pub slice_bounds-input-end : goal.slice_bounds-input-end
 slice_bounds-input-end c = c.read_full-length.ensures.0
 
-pub slice_bounds-show_lines-end : goal.slice_bounds-show_lines-end
-slice_bounds-show_lines-end c = c.read_full-length.ensures.1
+pub slice_bounds-input-end-2 : goal.slice_bounds-input-end-2
+slice_bounds-input-end-2 c = c.read_full-length.ensures.1

@@ -11,7 +11,6 @@ use Rattle.expressions.proofs.Items.{Items}
 use Rattle.expressions.proofs.Steps.{Steps}
 use Rattle.rules.specs.Expressions.{structural}
 use Rattle.lists.specs.Answer.{owner_of}
-use Rattle.rules.specs.Codes.Limit as Limit
 use Rattle.rules.specs.Codes.BaseToken as BaseToken
 use Rattle.expressions.proofs.+expression.Given as goal
 
@@ -63,53 +62,52 @@ decreases-step l = l.unused * 9 + 1
 abbrev pub decreases-unary : goal.decreases-unary
 decreases-unary l = l.unused * 9 + 5
 
-abbrev pub invariant-addition-loop-root : goal.invariant-addition-loop-root
-invariant-addition-loop-root l =
+abbrev pub invariant-addition-loop-right : goal.invariant-addition-loop-right
+invariant-addition-loop-right l =
     (length l.node_words ≡ length l.initial.node_words) ×
-    Sized l.kinds l.types l.node_words l.place l.used × Fits l.pending ×
-    Terms l.kinds l.types l.unused l.initial.place (nodes l.initial.node_words l.initial.used) l.pending l.place
-    (nodes l.node_words l.used)
+    Sized l.row.kinds.now l.row.types.now l.node_words l.cursor.0 l.count × Fits l.pending ×
+    Terms l.row.kinds.now l.row.types.now l.unused l.initial.cursor.0
+    (nodes l.initial.node_words l.initial.count) l.pending l.cursor.0 (nodes l.node_words l.count)
 
-abbrev pub decreases-addition-loop-root : goal.decreases-addition-loop-root
-decreases-addition-loop-root l = length l.kinds - l.place
+abbrev pub decreases-addition-loop-right : goal.decreases-addition-loop-right
+decreases-addition-loop-right l = length l.row.kinds.now - l.cursor.0
 
-abbrev pub invariant-deref_steps-loop-steps : goal.invariant-deref_steps-loop-steps
-invariant-deref_steps-loop-steps l =
+abbrev pub invariant-deref_steps-loop : goal.invariant-deref_steps-loop
+invariant-deref_steps-loop l =
     (length l.node_words ≡ length l.initial.node_words) ×
-    Sized l.kinds l.types l.node_words l.place l.used × (past l.list ≤ l.used) × (l.steps ≤ Limit.ReferenceDepth) ×
-    Steps l.kinds l.types l.unused l.start.0 l.depth l.name.0 l.initial.place (nodes l.initial.node_words l.initial.used) l.steps l.list l.place
-    (nodes l.node_words l.used)
+    Sized l.row.kinds.now l.row.types.now l.node_words l.cursor.0 l.count × (past l.list ≤ l.count) ×
+    Steps l.row.kinds.now l.row.types.now l.unused l.reference.start.0 l.reference.address.depth
+    l.reference.address.name.0 l.initial.cursor.0 (nodes l.initial.node_words l.initial.count) l.counter
+    l.list l.cursor.0 (nodes l.node_words l.count)
 
-abbrev pub decreases-deref_steps-loop-steps : goal.decreases-deref_steps-loop-steps
-decreases-deref_steps-loop-steps l = Limit.ReferenceDepth - l.steps
-
-abbrev pub invariant-multiplication-loop-root : goal.invariant-multiplication-loop-root
-invariant-multiplication-loop-root l =
+abbrev pub invariant-multiplication-loop-right : goal.invariant-multiplication-loop-right
+invariant-multiplication-loop-right l =
     (length l.node_words ≡ length l.initial.node_words) ×
-    Sized l.kinds l.types l.node_words l.place l.used × Fits l.pending ×
-    Factors l.kinds l.types l.unused l.bare l.initial.place (nodes l.initial.node_words l.initial.used) l.pending l.place
-    (nodes l.node_words l.used)
+    Sized l.row.kinds.now l.row.types.now l.node_words l.cursor.0 l.count × Fits l.pending ×
+    Factors l.row.kinds.now l.row.types.now l.unused l.bare l.initial.cursor.0
+    (nodes l.initial.node_words l.initial.count) l.pending l.cursor.0 (nodes l.node_words l.count)
 
-abbrev pub decreases-multiplication-loop-root : goal.decreases-multiplication-loop-root
-decreases-multiplication-loop-root l = length l.kinds - l.place
+abbrev pub decreases-multiplication-loop-right : goal.decreases-multiplication-loop-right
+decreases-multiplication-loop-right l = length l.row.kinds.now - l.cursor.0
 
-abbrev pub invariant-rest_of_fields-loop-longer : goal.invariant-rest_of_fields-loop-longer
-invariant-rest_of_fields-loop-longer l =
+abbrev pub invariant-rest_of_fields-loop-turn : goal.invariant-rest_of_fields-loop-turn
+invariant-rest_of_fields-loop-turn l =
     (length l.node_words ≡ length l.initial.node_words) ×
-    Sized l.kinds l.types l.node_words l.place l.used × (past l.list ≤ l.used) × (l.items ≤ l.used) ×
-    Items l.kinds l.types l.unused (structural l.name.0) BaseToken.BraceRight l.initial.place
-    (nodes l.initial.node_words l.initial.used) l.list l.items l.place
-    (nodes l.node_words l.used)
+    Sized l.row.kinds.now l.row.types.now l.node_words l.cursor.0 l.count ×
+    (past l.list.list ≤ l.count) × (l.list.items ≤ l.count) ×
+    Items l.row.kinds.now l.row.types.now l.unused (structural l.name.0) BaseToken.BraceRight l.initial.cursor.0
+    (nodes l.initial.node_words l.initial.count) l.list l.cursor.0 (nodes l.node_words l.count)
 
-abbrev pub decreases-rest_of_fields-loop-longer : goal.decreases-rest_of_fields-loop-longer
-decreases-rest_of_fields-loop-longer l = length l.kinds - l.place
+abbrev pub decreases-rest_of_fields-loop-turn : goal.decreases-rest_of_fields-loop-turn
+decreases-rest_of_fields-loop-turn l = length l.row.kinds.now - l.cursor.0
 
-abbrev pub invariant-rest_of_list-loop-longer : goal.invariant-rest_of_list-loop-longer
-invariant-rest_of_list-loop-longer l =
+abbrev pub invariant-rest_of_list-loop-turn : goal.invariant-rest_of_list-loop-turn
+invariant-rest_of_list-loop-turn l =
     (length l.node_words ≡ length l.initial.node_words) ×
-    Sized l.kinds l.types l.node_words l.place l.used × (past l.list ≤ l.used) × (l.items ≤ l.used) ×
-    Items l.kinds l.types l.unused (owner_of l.owner) l.closing l.initial.place (nodes l.initial.node_words l.initial.used) l.list l.items l.place
-    (nodes l.node_words l.used)
+    Sized l.row.kinds.now l.row.types.now l.node_words l.cursor.0 l.count ×
+    (past l.list.list ≤ l.count) × (l.list.items ≤ l.count) ×
+    Items l.row.kinds.now l.row.types.now l.unused (owner_of l.owner) l.closing l.initial.cursor.0
+    (nodes l.initial.node_words l.initial.count) l.list l.cursor.0 (nodes l.node_words l.count)
 
-abbrev pub decreases-rest_of_list-loop-longer : goal.decreases-rest_of_list-loop-longer
-decreases-rest_of_list-loop-longer l = length l.kinds - l.place
+abbrev pub decreases-rest_of_list-loop-turn : goal.decreases-rest_of_list-loop-turn
+decreases-rest_of_list-loop-turn l = length l.row.kinds.now - l.cursor.0

@@ -1,3 +1,4 @@
+-- `expressions::after_prefix` meets its contract: a law for each return, found among the facts of its path.
 use Rattle.expressions.proofs.Laws.{prefix-next, prefix-none, pipe, exclamation, minus}
 use borrow.Author.Rules.{rules}
 use Rattle.expressions.proofs.after_prefix.Goals as goal

@@ -1,12 +1,7 @@
+-- `expressions::finish_unary` meets its contract: a law for each return, found among the facts of its path.
 use Rattle.expressions.proofs.Laws.{length-ends, prefix-ends, primary-ends, complement, negative}
 use borrow.Author.Rules.{rules}
 use Rattle.expressions.proofs.finish_unary.Goals as goal
-
-pub push_prefix-requires : goal.push_prefix-requires
-push_prefix-requires c = (search rules, search rules, search rules)
-
-pub push_prefix-requires-in-15 : goal.push_prefix-requires-in-15
-push_prefix-requires-in-15 c = (search rules, search rules, search rules)
 
 pub returns-in-9 : goal.returns-in-9
 returns-in-9 c = search (rules, length-ends)

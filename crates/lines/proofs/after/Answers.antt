@@ -1,13 +1,8 @@
--- `lines::after` meets its contract: by whether the byte stands there.
-use borrow.Author.Rules.{rules}
-use Rattle.lines.proofs.Laws.{after-there, after-other, after-end}
+-- `lines::after` meets its contract: the library compares the letters as the rule does.
+use Rattle.lines.proofs.Laws.{after-none, after-some}
+use Rattle.std.proofs.Common.{arith}
+use Rattle.std.proofs.lemmas.Grind.{common_steps}
 use Rattle.lines.proofs.after.Goals as goal
 
-pub returns-then-line-from : goal.returns-then-line-from
-returns-then-line-from c = record { within = search rules; is = search (rules, after-there) }
-
-pub returns-else-line-from : goal.returns-else-line-from
-returns-else-line-from c = record { within = search rules; is = search (rules, after-other) }
-
-pub returns-else-from-line : goal.returns-else-from-line
-returns-else-from-line c = record { within = search rules; is = search (rules, after-end) }
+pub returns-clause-is : goal.returns-clause-is
+returns-clause-is c = grind (arith, common_steps, after-none, after-some)

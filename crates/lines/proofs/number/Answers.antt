@@ -1,10 +1,11 @@
--- `lines::number` meets its contract: by whether the digits make too large a number.
+-- `lines::number` meets what it asks of its callees: what the first digits are.
 use borrow.Author.Rules.{rules}
-use Rattle.lines.proofs.Laws.{too_large, small-enough}
+use Rattle.std.proofs.lemmas.List.Sums.{prefix_len-le-length}
+use Rattle.lines.proofs.Laws.{digits-pass}
 use Rattle.lines.proofs.number.Goals as goal
 
-pub returns-then-most-value : goal.returns-then-most-value
-returns-then-most-value c = record { bounds = search rules; is = search (rules, too_large) }
+pub split_at-requires : goal.split_at-requires
+split_at-requires c = search (rules, prefix_len-le-length)
 
-pub returns : goal.returns
-returns c = record { bounds = search rules; is = search (rules, small-enough) }
+pub value_of-requires : goal.value_of-requires
+value_of-requires c = search (rules, digits-pass)

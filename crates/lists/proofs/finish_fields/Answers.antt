@@ -1,13 +1,15 @@
+-- `lists::finish_fields` meets its contract: a law for each return, found among the facts of its path.
+use Rattle.codes.proofs.Onto.{returned}
 use Rattle.lists.proofs.Laws.{list-refused, fields_read}
 use Rattle.lists.proofs.Bounds.{link-slots}
 use borrow.Author.Rules.{rules}
 use Rattle.lists.proofs.finish_fields.Goals as goal
 
-pub returns-in_default : goal.returns-in_default
-returns-in_default c = search (rules, list-refused)
+pub returns-in_err-cursor : goal.returns-in_err-cursor
+returns-in_err-cursor c = returned c.from_residual.ensures.1 (search (rules, list-refused, c.in_err-cursor.was))
 
 pub push-requires : goal.push-requires
-push-requires c = (search (rules, link-slots), search rules)
+push-requires c = (search (rules, link-slots, c.in_ok-cursor.was), search rules)
 
 pub returns : goal.returns
-returns c = search (rules, fields_read)
+returns c = search (rules, fields_read, c.in_ok-cursor.was)

@@ -5,7 +5,7 @@ use Rattle.literals.proofs.Laws.{Strung}
 use Rattle.literals.proofs.end_of_strings.Given as goal
 
 abbrev pub invariant-loop-after : goal.invariant-loop-after
-invariant-loop-after l = (l.at ≤ Limits.Tokens + 1) × Strung l.kinds l.initial.at l.at
+invariant-loop-after l = (l.cursor.0 ≤ Limits.Tokens + 1) × Strung l.row.kinds.now l.initial.cursor.0 l.cursor.0
 
 abbrev pub decreases-loop-after : goal.decreases-loop-after
-decreases-loop-after l = length l.kinds - l.at
+decreases-loop-after l = length l.row.kinds.now - l.cursor.0

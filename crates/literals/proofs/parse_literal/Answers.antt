@@ -1,13 +1,11 @@
-use Rattle.literals.proofs.Laws.{decimal, bits, char, boolean, literal-read, typed-read, joined-read}
-use Rattle.literals.proofs.Laws.{literal-refused}
+use Rattle.literals.proofs.Laws.{naked-read, char, boolean, literal-read, typed-read, joined-read}
+use Rattle.rules.specs.Reading.{◌>>=◌, here, take, choose}
+use Rattle.rules.specs.Expressions.{primary}
 use borrow.Author.Rules.{rules}
 use Rattle.literals.proofs.parse_literal.Goals as goal
 
 pub returns-in-55 : goal.returns-in-55
-returns-in-55 c = search (rules, literal-read, decimal)
-
-pub returns-in-56 : goal.returns-in-56
-returns-in-56 c = search (rules, literal-read, bits)
+returns-in-55 c = search (rules, naked-read)
 
 pub returns-in-57 : goal.returns-in-57
 returns-in-57 c = search (rules, typed-read)
@@ -22,4 +20,9 @@ pub returns-in-60 : goal.returns-in-60
 returns-in-60 c = search (rules, joined-read)
 
 pub returns-in_default : goal.returns-in_default
-returns-in_default c = search (rules, literal-refused)
+unfolding primary ◌>>=◌ here take choose
+returns-in_default c = search rules
+
+pub returns-in_default-2 : goal.returns-in_default-2
+unfolding primary ◌>>=◌ here take choose
+returns-in_default-2 c = search rules

@@ -1,10 +1,10 @@
+-- `openings::after_ampersand` meets its contract: a law for each return, found among the facts of its path.
 use Rattle.openings.proofs.Laws.{pointer-opens, pointer-refused}
-use Rattle.openings.proofs.Laws.{pointer-fits, refused-fits}
 use borrow.Author.Rules.{rules}
 use Rattle.openings.proofs.after_ampersand.Goals as goal
 
-pub returns-in-Name : goal.returns-in-Name
-returns-in-Name c = (search (rules, pointer-opens), search (rules, pointer-fits))
+pub returns-in-Ok : goal.returns-in-Ok
+returns-in-Ok c = (search (rules, pointer-opens), search rules)
 
-pub returns-in-Refused : goal.returns-in-Refused
-returns-in-Refused c = (search (rules, pointer-refused), search (rules, refused-fits))
+pub returns-in-Err : goal.returns-in-Err
+returns-in-Err c = (search (rules, pointer-refused), tt)

@@ -3,8 +3,8 @@ use Rattle.operators.proofs.Laws.{first-operand, operand-joined}
 use borrow.Author.Rules.{rules}
 use Rattle.operators.proofs.push_pending.Goals as goal
 
-pub returns-then-op-eq-NO_OPERATOR : goal.returns-then-op-eq-NO_OPERATOR
-returns-then-op-eq-NO_OPERATOR c = search (rules, first-operand)
+pub returns-then-pending-eq-NO_OPERATOR : goal.returns-then-pending-eq-NO_OPERATOR
+returns-then-pending-eq-NO_OPERATOR c = search (rules, first-operand)
 
-pub returns-else-op-eq-NO_OPERATOR : goal.returns-else-op-eq-NO_OPERATOR
-returns-else-op-eq-NO_OPERATOR c = search (rules, operand-joined)
+pub returns-else-pending-eq-NO_OPERATOR : goal.returns-else-pending-eq-NO_OPERATOR
+returns-else-pending-eq-NO_OPERATOR c = search (rules, operand-joined)

@@ -1,20 +1,25 @@
--- `penne::parse_expression` meets its contract: a law for each return, found among the facts of its path.
-use Rattle.checks.proofs.Laws.{input-listed, input-sized}
-use Rattle.penne.proofs.Promises.{check-refused}
-use Rattle.penne.proofs.Entries.{expression-splits, expression-followed}
-use borrow.Author.Rules.{rules}
+-- `penne::parse_expression` meets its contract: an entry's laws, of its check and its reader.
+use Rattle.penne.proofs.Entries.{expression-entry, refused, sized, splits, followed}
 use Rattle.penne.proofs.parse_expression.Goals as goal
 
-pub parse_expression-reply-requires : goal.parse_expression-reply-requires
-parse_expression-reply-requires c = search (rules, input-sized)
+pub returns-in_err-passed : goal.returns-in_err-passed
+returns-in_err-passed c =
+    refused (expression-entry _ _ _) _ _ c.passed.ensures _ _
+    c.check_input-checked.ensures c.in_err-passed.was c.from_residual.ensures.1
+
+pub parse_expression-parsed-requires : goal.parse_expression-parsed-requires
+parse_expression-parsed-requires c =
+    sized (expression-entry _ _ _) _ _ c.passed.ensures _ _
+    c.check_input-checked.ensures c.in_ok-passed.was
 
 pub split-requires : goal.split-requires
-split-requires c = search (rules, expression-splits)
+split-requires c =
+    splits (expression-entry _ _ _) _ _ c.passed.ensures _ _
+    c.check_input-checked.ensures c.in_ok-passed.was
+    c.parse_expression-parsed.ensures c.node_count.ensures
 
-pub returns-in-Passed : goal.returns-in-Passed
-returns-in-Passed c =
-    expression-followed _ _ _ _ c.in-Passed.is c.count_of.ensures c.check_input.ensures
-    c.parse_expression-reply.ensures c.split.ensures
-
-pub returns-in-Failed : goal.returns-in-Failed
-returns-in-Failed c = search (rules, check-refused, input-listed)
+pub returns : goal.returns
+returns c =
+    followed (expression-entry _ _ _) _ _ c.passed.ensures _ _
+    c.check_input-checked.ensures c.in_ok-passed.was
+    c.parse_expression-parsed.ensures c.node_count.ensures c.split.ensures

@@ -1,20 +1,25 @@
--- `penne::parse_struct_declaration` meets its contract: a law for each return, found among the facts of its path.
-use Rattle.checks.proofs.Laws.{declaration-listed, declaration-sized, declaration-start, declaration-flags}
-use Rattle.penne.proofs.Promises.{check-refused}
-use Rattle.penne.proofs.Entries.{struct_splits, struct-followed}
-use borrow.Author.Rules.{rules}
+-- `penne::parse_struct_declaration` meets its contract: an entry's laws, of its check and its reader.
+use Rattle.penne.proofs.Entries.{struct-entry, refused, declaration-sized, splits, followed}
 use Rattle.penne.proofs.parse_struct_declaration.Goals as goal
 
-pub parse_struct_declaration-reply-requires : goal.parse_struct_declaration-reply-requires
-parse_struct_declaration-reply-requires c = (search (rules, declaration-sized), search (rules, declaration-start), search (rules, declaration-flags))
+pub returns-in_err-passed : goal.returns-in_err-passed
+returns-in_err-passed c =
+    refused (struct-entry _ _ _ _ _) _ _ c.passed.ensures _ _
+    c.check_declaration-checked.ensures c.in_err-passed.was c.from_residual.ensures.1
+
+pub parse_struct_declaration-parsed-requires : goal.parse_struct_declaration-parsed-requires
+parse_struct_declaration-parsed-requires c =
+    declaration-sized _ _ _ _ _ c.passed.ensures _ _ _ _
+    c.check_declaration-checked.ensures c.in_ok-passed.was
 
 pub split-requires : goal.split-requires
-split-requires c = search (rules, struct_splits)
+split-requires c =
+    splits (struct-entry _ _ _ _ _) _ _ c.passed.ensures _ _
+    c.check_declaration-checked.ensures c.in_ok-passed.was
+    c.parse_struct_declaration-parsed.ensures c.node_count.ensures
 
-pub returns-in-Passed : goal.returns-in-Passed
-returns-in-Passed c =
-    struct-followed _ _ _ _ c.in-Passed.is c.count_of.ensures _ _ c.check_declaration.ensures
-    c.parse_struct_declaration-reply.ensures c.split.ensures
-
-pub returns-in-Failed : goal.returns-in-Failed
-returns-in-Failed c = search (rules, check-refused, declaration-listed)
+pub returns : goal.returns
+returns c =
+    followed (struct-entry _ _ _ _ _) _ _ c.passed.ensures _ _
+    c.check_declaration-checked.ensures c.in_ok-passed.was
+    c.parse_struct_declaration-parsed.ensures c.node_count.ensures c.split.ensures

@@ -1,20 +1,25 @@
--- `penne::parse_type` meets its contract: a law for each return, found among the facts of its path.
-use Rattle.checks.proofs.Laws.{input-listed, input-sized}
-use Rattle.penne.proofs.Promises.{check-refused}
-use Rattle.penne.proofs.Entries.{type-splits, type-followed}
-use borrow.Author.Rules.{rules}
+-- `penne::parse_type` meets its contract: an entry's laws, of its check and its reader.
+use Rattle.penne.proofs.Entries.{type-entry, refused, sized, splits, followed}
 use Rattle.penne.proofs.parse_type.Goals as goal
 
-pub parse_type-reply-requires : goal.parse_type-reply-requires
-parse_type-reply-requires c = search (rules, input-sized)
+pub returns-in_err-passed : goal.returns-in_err-passed
+returns-in_err-passed c =
+    refused (type-entry _ _ _) _ _ c.passed.ensures _ _
+    c.check_input-checked.ensures c.in_err-passed.was c.from_residual.ensures.1
+
+pub parse_type-parsed-requires : goal.parse_type-parsed-requires
+parse_type-parsed-requires c =
+    sized (type-entry _ _ _) _ _ c.passed.ensures _ _
+    c.check_input-checked.ensures c.in_ok-passed.was
 
 pub split-requires : goal.split-requires
-split-requires c = search (rules, type-splits)
+split-requires c =
+    splits (type-entry _ _ _) _ _ c.passed.ensures _ _
+    c.check_input-checked.ensures c.in_ok-passed.was
+    c.parse_type-parsed.ensures c.node_count.ensures
 
-pub returns-in-Passed : goal.returns-in-Passed
-returns-in-Passed c =
-    type-followed _ _ _ _ c.in-Passed.is c.count_of.ensures c.check_input.ensures
-    c.parse_type-reply.ensures c.split.ensures
-
-pub returns-in-Failed : goal.returns-in-Failed
-returns-in-Failed c = search (rules, check-refused, input-listed)
+pub returns : goal.returns
+returns c =
+    followed (type-entry _ _ _) _ _ c.passed.ensures _ _
+    c.check_input-checked.ensures c.in_ok-passed.was
+    c.parse_type-parsed.ensures c.node_count.ensures c.split.ensures

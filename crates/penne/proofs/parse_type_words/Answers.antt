@@ -1,14 +1,18 @@
--- `penne::parse_type_words` meets its contract: a law for each return, found among the facts of its path.
-use Rattle.checks.proofs.Laws.{input-sized}
-use Rattle.penne.proofs.Entries.{type-words-followed, type-words-refused}
-use borrow.Author.Rules.{rules}
+-- `penne::parse_type_words` meets its contract: an entry's laws, of its check and its reader.
+use Rattle.penne.proofs.Entries.{type-entry, words-refused, words-sized, words-followed}
 use Rattle.penne.proofs.parse_type_words.Goals as goal
 
+pub returns-in_err-passed : goal.returns-in_err-passed
+returns-in_err-passed c =
+    words-refused (type-entry _ _ _) _ _ c.passed.ensures _
+    c.check_input-checked.ensures c.in_err-passed.was c.from_residual.ensures.1
+
 pub parse_type-requires : goal.parse_type-requires
-parse_type-requires c = search (rules, input-sized)
+parse_type-requires c =
+    words-sized (type-entry _ _ _) _ _ c.passed.ensures _
+    c.check_input-checked.ensures c.in_ok-passed.was
 
-pub returns-in-Passed : goal.returns-in-Passed
-returns-in-Passed c = search (rules, type-words-followed)
-
-pub returns-in-Failed : goal.returns-in-Failed
-returns-in-Failed c = search (rules, type-words-refused)
+pub returns : goal.returns
+returns c =
+    words-followed (type-entry _ _ _) _ _ c.passed.ensures _
+    c.check_input-checked.ensures c.in_ok-passed.was c.parse_type.ensures

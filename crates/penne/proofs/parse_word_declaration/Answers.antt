@@ -1,20 +1,25 @@
--- `penne::parse_word_declaration` meets its contract: a law for each return, found among the facts of its path.
-use Rattle.checks.proofs.Laws.{word-listed, word-sized, word-start, word_flags}
-use Rattle.penne.proofs.Promises.{check-refused}
-use Rattle.penne.proofs.Entries.{word-splits, word-followed}
-use borrow.Author.Rules.{rules}
+-- `penne::parse_word_declaration` meets its contract: an entry's laws, of its check and its reader.
+use Rattle.penne.proofs.Entries.{word-entry, refused, word-sized, splits, followed}
 use Rattle.penne.proofs.parse_word_declaration.Goals as goal
 
-pub parse_word_declaration-reply-requires : goal.parse_word_declaration-reply-requires
-parse_word_declaration-reply-requires c = (search (rules, word-sized), search (rules, word-start), search (rules, word_flags))
+pub returns-in_err-passed : goal.returns-in_err-passed
+returns-in_err-passed c =
+    refused (word-entry _ _ _ _ _ _) _ _ c.passed.ensures _ _
+    c.check_word_declaration-checked.ensures c.in_err-passed.was c.from_residual.ensures.1
+
+pub parse_word_declaration-parsed-requires : goal.parse_word_declaration-parsed-requires
+parse_word_declaration-parsed-requires c =
+    word-sized _ _ _ _ _ c.passed.ensures _ _ _ _ c.args.declaring_token
+    c.check_word_declaration-checked.ensures c.in_ok-passed.was
 
 pub split-requires : goal.split-requires
-split-requires c = search (rules, word-splits)
+split-requires c =
+    splits (word-entry _ _ _ _ _ _) _ _ c.passed.ensures _ _
+    c.check_word_declaration-checked.ensures c.in_ok-passed.was
+    c.parse_word_declaration-parsed.ensures c.node_count.ensures
 
-pub returns-in-Passed : goal.returns-in-Passed
-returns-in-Passed c =
-    word-followed _ _ _ _ c.in-Passed.is c.count_of.ensures _ _ _ c.check_word_declaration.ensures
-    c.parse_word_declaration-reply.ensures c.split.ensures
-
-pub returns-in-Failed : goal.returns-in-Failed
-returns-in-Failed c = search (rules, check-refused, word-listed)
+pub returns : goal.returns
+returns c =
+    followed (word-entry _ _ _ _ _ _) _ _ c.passed.ensures _ _
+    c.check_word_declaration-checked.ensures c.in_ok-passed.was
+    c.parse_word_declaration-parsed.ensures c.node_count.ensures c.split.ensures

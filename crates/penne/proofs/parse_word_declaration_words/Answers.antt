@@ -1,14 +1,18 @@
--- `penne::parse_word_declaration_words` meets its contract: a law for each return, found among the facts of its path.
-use Rattle.checks.proofs.Laws.{word-sized, word-start, word_flags}
-use Rattle.penne.proofs.Entries.{word-words-followed, word-words-refused}
-use borrow.Author.Rules.{rules}
+-- `penne::parse_word_declaration_words` meets its contract: an entry's laws, of its check and its reader.
+use Rattle.penne.proofs.Entries.{word-entry, words-refused, word-sized, words-followed}
 use Rattle.penne.proofs.parse_word_declaration_words.Goals as goal
 
+pub returns-in_err-passed : goal.returns-in_err-passed
+returns-in_err-passed c =
+    words-refused (word-entry _ _ _ _ _ _) _ _ c.passed.ensures _
+    c.check_word_declaration-checked.ensures c.in_err-passed.was c.from_residual.ensures.1
+
 pub parse_word_declaration-requires : goal.parse_word_declaration-requires
-parse_word_declaration-requires c = (search (rules, word-sized), search (rules, word-start), search (rules, word_flags))
+parse_word_declaration-requires c =
+    word-sized _ _ _ _ _ c.passed.ensures _ _ _ _ c.args.declaring_token
+    c.check_word_declaration-checked.ensures c.in_ok-passed.was
 
-pub returns-in-Passed : goal.returns-in-Passed
-returns-in-Passed c = search (rules, word-words-followed)
-
-pub returns-in-Failed : goal.returns-in-Failed
-returns-in-Failed c = search (rules, word-words-refused)
+pub returns : goal.returns
+returns c =
+    words-followed (word-entry _ _ _ _ _ _) _ _ c.passed.ensures _
+    c.check_word_declaration-checked.ensures c.in_ok-passed.was c.parse_word_declaration.ensures

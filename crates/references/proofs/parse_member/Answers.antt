@@ -1,21 +1,26 @@
+-- `references::parse_member` meets its contract: a law for each return, found among the facts of its path.
 use native.Mathlib.Omega.{arith}
-use Rattle.tokens.proofs.Bounds.{same_count}
-use Rattle.nodes.proofs.Bounds.{same-slots, after_push}
+use Rattle.nodes.proofs.Bounds.{after_push}
+use Rattle.codes.proofs.Onto.{exits}
 use Rattle.references.proofs.Laws.{member-unnamed, member-refused, member-read}
 use borrow.Author.Rules.{rules}
 use Rattle.references.proofs.parse_member.Goals as goal
 
-pub push-step-requires : goal.push-step-requires
-push-step-requires c = (search (rules, same-slots, same_count), search rules)
+pub returns-in_err-cursor : goal.returns-in_err-cursor
+returns-in_err-cursor c = rw (exits c.from_residual.ensures.1) (search (rules, member-unnamed, c.in_err-cursor.was))
 
-pub returns-in_default : goal.returns-in_default
-returns-in_default c = search (rules, member-refused)
+pub push-requires : goal.push-requires
+push-requires c = search rules
 
-pub push_step-requires : goal.push_step-requires
-push_step-requires c = let e = same_count _ c.consume.ensures c.in-Next.is in let (a, b, _) = after_push _ _ c.push-step.ensures c.in-Node.is (same-slots e c.requires.1) in (a, omega arith)
+pub returns-in_err-cursor-2 : goal.returns-in_err-cursor-2
+returns-in_err-cursor-2 c =
+    rw (exits c.from_residual-in_err-cursor-2.ensures.1)
+    (search (rules, member-refused, c.in_ok-cursor.was, c.in_err-cursor-2.was))
 
-pub returns-in-Node : goal.returns-in-Node
-returns-in-Node c = search (rules, member-read)
+pub push_list_item-requires : goal.push_list_item-requires
+push_list_item-requires c =
+    let (a, b, _) = after_push _ _ c.push.ensures c.in_ok-cursor-2.was c.requires.1 in
+    (a, omega arith)
 
-pub returns-in-Wrong : goal.returns-in-Wrong
-returns-in-Wrong c = search (rules, member-unnamed)
+pub returns : goal.returns
+returns c = search (rules, member-read, c.in_ok-cursor.was, c.in_ok-cursor-2.was)

@@ -1,3 +1,4 @@
+-- `references::push_name` meets its contract: a reference whose list is empty.
 use Rattle.nodes.proofs.Laws.{past-none}
 use Rattle.references.proofs.Laws.{name-read}
 use borrow.Author.Rules.{rules}

@@ -7,5 +7,5 @@ use Rattle.types.proofs.parse_type.Goals as goal
 pub push-requires : goal.push-requires
 push-requires c = (search rules, search (rules, short-fits))
 
-pub returns-then-unused-gt0 : goal.returns-then-unused-gt0
-returns-then-unused-gt0 c = search (rules, short-read)
+pub returns : goal.returns
+returns c = search (rules, short-read)

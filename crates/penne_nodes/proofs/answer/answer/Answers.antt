@@ -1,27 +1,17 @@
 -- `penne_nodes::answer::answer` meets its contract: by whether the file is bad.
-use Rattle.penne_nodes.proofs.Laws.{is-bad, is-good, bad-answered, parse-answered}
-use Rattle.node_text.proofs.Texts.{puts-fit, less-room}
-use borrow.Author.Rules.{rules}
+use Rattle.std.proofs.Common.{rules}
+use Rattle.penne_nodes.proofs.Laws.{bad-answered, parse-answered, parse-put, nodes-room}
 use Rattle.penne_nodes.proofs.answer.answer.Goals as goal
 
-pub put_bad_file-requires : goal.put_bad_file-requires
-put_bad_file-requires c = search (rules, less-room)
+pub returns-in_default-clause-answers : goal.returns-in_default-clause-answers
+returns-in_default-clause-answers c = bad-answered _ _ c.in_default.ensures (search rules)
 
-pub returns-then-is_bad : goal.returns-then-is_bad
-returns-then-is_bad c =
-    let bad = is-bad _ c.is_bad.ensures c.if-is_bad.true in
-    record { answers = bad-answered _ _ bad c.put_bad_file.ensures; upper_bound = puts-fit c.put_bad_file.ensures }
+pub put_nodes-requires-clause-room : goal.put_nodes-requires-clause-room
+put_nodes-requires-clause-room c =
+    let (bytes, end) = c.new-text.ensures.no_text in
+    nodes-room _ c.parse-reply.ensures.fits c.node_count.ensures c.put_reply.ensures.puts (rw (bytes, end) c.requires.room)
 
-pub parse-reply-requires : goal.parse-reply-requires
-parse-reply-requires c = record { false_value = search (rules, is-good); node_kinds_len = search rules }
-
-pub put_parse-requires : goal.put_parse-requires
-put_parse-requires c = record { fits = c.parse-reply.ensures.fits; room = c.requires.room }
-
-pub returns : goal.returns
-returns c =
-    let good = is-good _ c.is_bad.ensures c.if-is_bad.false in
-    record {
-      answers = parse-answered _ _ good _ c.parse-reply.ensures.gives c.put_parse.ensures;
-      upper_bound = puts-fit c.put_parse.ensures;
-    }
+pub returns-clause-answers : goal.returns-clause-answers
+returns-clause-answers c =
+    let p = parse-put _ _ _ c.node_count.ensures c.put_reply.ensures c.put_nodes.ensures in
+    parse-answered _ _ c.in-Some.ensures _ c.parse-reply.ensures.gives (search rules)

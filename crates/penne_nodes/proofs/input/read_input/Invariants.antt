@@ -1,7 +1,5 @@
 -- `penne_nodes::input::read_input` meets its contract: the loop stays within the buffer.
-use lib.ListN.{length}
-use mathlib.Core.Path.{◌≡◌}
-use Prim.Native.Nat.{◌≤◌, ◌-◌}
+use Rattle.std.proofs.Common.{◌≡◌, ◌≤◌, ◌-◌, length}
 use Rattle.penne_nodes.proofs.input.read_input.Given as goal
 
 abbrev pub invariant-loop-end : goal.invariant-loop-end
