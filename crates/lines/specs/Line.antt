@@ -1,5 +1,6 @@
 -- A line of text, and its parts.
-use Rattle.std.specs.Prelude.{ℕ, ◌-◌, ◌≤◌, ◌<◌, Bool, false, not, cond, List, [], ◌∷◌, ◌++◌, ◌≡◌, ◌≢◌, eqb, length, get_or, take, drop, Option, None, Some}
+use Rattle.std.specs.Prelude.{ℕ, ◌-◌, ◌≤◌, ◌<◌, Bool, false, not, cond, List, [], ◌∷◌, ◌++◌, ◌≡◌, ◌≢◌, eqb, length}
+use Rattle.std.specs.Prelude.{get_or, take, drop, Option, None, Some}
 
 -- a line that is not empty and does not begin with `#`
 abbrev pub is_row : List ℕ → Bool

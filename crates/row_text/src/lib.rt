@@ -71,7 +71,9 @@ fn read_word(word: &[u8], tokens: &mut Tokens) -> Option<()>
 }
 
 // The tokens of a row, in place of those that are there.
-pub fn read_tokens(words: &[u8], tokens: &mut Tokens) -> Option<()> {
+pub fn read_tokens(words: &[u8], tokens: &mut Tokens) -> Option<()>
+    ensures { tokens.new.count ≤ LineLimits.room }
+{
     tokens.clear();
     let parts = words.split(|byte| *byte == b' ');
     for word in parts.filter(|part| !part.is_empty()) {
