@@ -1,6 +1,6 @@
 // The node count and the open list in one record, which is lent to append and append_item, after the Rust's &mut
-// ParseBuffer. Each is thin above the function of crate nodes, and a refusal leaves the record as it was. A caller that
-// has the record by value uses the functions at the end.
+// ParseBuffer. Each calls one function of crate nodes, and a refusal leaves the record as it was. A caller that has the
+// record by value uses the functions at the end.
 #![tactic(auto)]
 
 ghost use Rattle.std.specs.Prelude.{◌≡◌, ◌≤◌};
@@ -11,7 +11,8 @@ ghost use Rattle.buffer.specs.Answer.{Appends, AppendsItem};
 use codes::{Node, NodeId, ParseResult, Parsed, Read, TokenId};
 use nodes::ActiveList;
 
-// How many nodes there are, and the list whose end is yet to come.
+// How many nodes there are, and the list whose end is yet to come. No invariant says that the list's nodes are among
+// these: append asks nothing of the list.
 #[derive(Clone, Copy)]
 pub struct ParseBuffer {
     pub count: u32,

@@ -24,7 +24,7 @@ pub struct Failed {
 // The answer of every check.
 pub type Checked = Result<(), Failed>;
 
-// The start of a refusal that tells of no token.
+// The start of a refusal that tells of no token, for which document 01 gives 0.
 const NOWHERE: TokenId = TokenId(0);
 
 // Refuses what is wrong, with this number and start.
@@ -164,6 +164,9 @@ fn check_word(kind: u8) -> Checked
     let bad_kind = kind < BaseToken::Word8 || kind > BaseToken::Word128;
     check(bad_kind, Refusal::BadWordKind, NOWHERE)
 }
+
+// The parameters of the three checks below are those of the entries, in their order, which C gives one by one: a struct
+// of them would be made for one call, and taken apart again by the promise, which names each.
 
 // What an expression and a type are checked for.
 pub fn check_input(

@@ -13,7 +13,8 @@ abbrev pub nodes : List ℕ → ℕ → Words
 nodes ws k = record { words = ws; count = k }
 
 -- The answer r and the column ws are what the rule m gives from the cursor c and the nodes s.
-pub record As {A T : Type 0} (f : A → State → T) (m : Rule Words A) (c : ℕ) (s : Words) (r : ParseResult T) (ws : List ℕ) : Type 0 where
+pub record As {A T : Type 0} (f : A → State → T) (m : Rule Words A) (c : ℕ) (s : Words) (r : ParseResult T)
+    (ws : List ℕ) : Type 0 where
   pub reply : r ≡ answer f (m c s).result (m c s).cursor (m c s).state.count
   pub words : ws ≡ (m c s).state.words
 
@@ -22,18 +23,21 @@ abbrev pub Gives : Rule Words ℕ → ℕ → Words → ParseResult (Read NodeId
 Gives = As parsed
 
 -- The same of a reader that does not look at a part of the row: of each of these rows.
-pub record Across {X A T : Type 0} (rows : X → Row) (f : A → State → T) (m : Row → Rule Words A) (c : ℕ) (s : Words) (r : ParseResult T)
-    (ws : List ℕ) : Type 0 where
+pub record Across {X A T : Type 0} (rows : X → Row) (f : A → State → T) (m : Row → Rule Words A) (c : ℕ) (s : Words)
+    (r : ParseResult T) (ws : List ℕ) : Type 0 where
   pub run : (x : X) → As f (m (rows x)) c s r ws
 
 -- whatever the value types are, the kinds, or both
-abbrev pub Untyped : {A T : Type 0} → (A → State → T) → (Row → Rule Words A) → List ℕ → ℕ → Words → ParseResult T → List ℕ → Type 0
+abbrev pub Untyped :
+    {A T : Type 0} → (A → State → T) → (Row → Rule Words A) → List ℕ → ℕ → Words → ParseResult T → List ℕ → Type 0
 Untyped f m kinds = Across (row kinds) f m
 
-abbrev pub Unkinded : {A T : Type 0} → (A → State → T) → (Row → Rule Words A) → List ℕ → ℕ → Words → ParseResult T → List ℕ → Type 0
+abbrev pub Unkinded :
+    {A T : Type 0} → (A → State → T) → (Row → Rule Words A) → List ℕ → ℕ → Words → ParseResult T → List ℕ → Type 0
 Unkinded f m types = Across (λ kinds. row kinds types) f m
 
-abbrev pub Unread : {A T : Type 0} → (A → State → T) → (Row → Rule Words A) → ℕ → Words → ParseResult T → List ℕ → Type 0
+abbrev pub Unread :
+    {A T : Type 0} → (A → State → T) → (Row → Rule Words A) → ℕ → Words → ParseResult T → List ℕ → Type 0
 Unread f m = Across (λ (at : Row). at) f m
 
 -- The same of a reader that appends nothing and reads no value type: whatever these and the column are.

@@ -5,8 +5,8 @@ use mathlib.Core.Option.{none}
 use Prim.Native.Nat.{ℕ, ◌+◌, ◌≤◌}
 use native.Mathlib.Omega.{arith}
 use mathlib.Core.Bool.{Bool, true, false}
-use lib.Dec.{eqb, ltb}
-use borrow.Author.Tests.{ne_eqb, ltb-true}
+use lib.Dec.{eqb}
+use borrow.Author.Tests.{ne_eqb}
 use Rattle.std.specs.Prelude.{Ok}
 use Rattle.codes.specs.declared.NodeId.{NodeId}
 use Rattle.codes.specs.declared.Read.{Read}
@@ -25,14 +25,13 @@ use Rattle.types.proofs.Bounds.{after-type}
 use Rattle.declarations.specs.Answer.{named}
 use Rattle.declarations.proofs.Laws.{came-named}
 use Rattle.rules.specs.Codes.{pick, refusal_of}
-use Rattle.rules.specs.Codes.DeclarationFlag as DeclarationFlag
 use Rattle.rules.specs.Codes.Limit as Limit
 use Rattle.rules.specs.Codes.BaseToken as BaseToken
 use Rattle.rules.specs.Places.{place_of, untaken}
 use Rattle.rules.specs.Words.{words}
 use Rattle.rules.specs.Types.{type}
 use Rattle.rules.specs.Expressions.{expression}
-use Rattle.rules.specs.Declarations.{opaque, size_of_word, typed, value, member, members}
+use Rattle.rules.specs.Declarations.{size_of_word, typed, value, member, members}
 use Rattle.rules.proofs.Forward.{below}
 use Rattle.rules.proofs.Forward.{Nonzero, consumes, eased, ◌then◌}
 use Rattle.rules.proofs.Moves.{colon-moves, typed-moves, value-moves, member-moves, members-moves}
@@ -130,16 +129,7 @@ module _ {tk tv ns : List ℕ} {c k : ℕ} (u : ℕ) {r : ParseResult (Read Node
 pub none-fits : (l : ActiveList) → ends l ≡ none → (k : ℕ) → past l ≤ k
 none-fits l q k = let e = past-none l q in omega arith
 
--- flags with OpaqueStruct among them, and a word's size, fit a load
-pub opaque-fits : {all : ℕ} (flags : ℕ) → all ≡ opaque flags → flags ≤ Limit.Load → all ≤ Limit.Load
-opaque-fits flags e h = rw e (go (ltb flags DeclarationFlag.OpaqueStruct) refl)
-  where
-    go :
-        (b : Bool) → ltb flags DeclarationFlag.OpaqueStruct ≡ b →
-        pick b (flags + DeclarationFlag.OpaqueStruct) flags ≤ Limit.Load
-    go true d = let x = ltb-true flags DeclarationFlag.OpaqueStruct d in omega arith
-    go false d = h
-
+-- a word's size fits a load
 pub size_fits : {size : ℕ} (kind : ℕ) → size ≡ size_of_word kind → size ≤ Limit.Load
 size_fits kind e = rw e (
     go (eqb kind BaseToken.Word8) (eqb kind BaseToken.Word16) (eqb kind BaseToken.Word32) (eqb kind BaseToken.Word64)

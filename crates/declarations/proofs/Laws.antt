@@ -22,12 +22,12 @@ use Rattle.codes.proofs.Onto.{first, came-node, regroup}
 use Rattle.tokens.specs.Answer.{Optionally, kind_in, consumed, consuming}
 use Rattle.tokens.proofs.Laws.{consumes, wrong, taken, skipped, there, not_there, apart, came-token, came-consumed}
 use Rattle.nodes.specs.declared.ActiveList.{ActiveList}
+use Rattle.nodes.specs.declared.Turn.{Turn}
+use Rattle.nodes.specs.declared.Turn.TheVariants.{More, Last}
 use Rattle.nodes.specs.Answer.{ends, active, listed, append_two}
 use Rattle.nodes.proofs.Laws.{active-ends, came-listed}
 use Rattle.types.specs.Answer.{Shorts}
 use Rattle.types.proofs.Laws.{short-type}
-use Rattle.references.specs.declared.Stepped.{Stepped}
-use Rattle.references.specs.declared.Stepped.TheVariants.{More, Last}
 use Rattle.references.specs.Answer.{stepped, stepping}
 use Rattle.references.proofs.Laws.{step-more, step-full}
 use Rattle.declarations.specs.Answer.{coloned, named, member_typed, declaring, structured, opaque_struct}
@@ -191,7 +191,7 @@ module _ (tk : List ℕ) (l : ActiveList) (t c x k : ℕ) (peeked : x ≡ kind_i
       (g : As listed (push_list_item (ends l)) (c + 1) (nodes ks k) o ks') where
     -- a comma is taken, and what is read after it is read after the member
     comma-read :
-        x ≡ BaseToken.Comma → {r : ParseResult (Read Stepped)} →
+        x ≡ BaseToken.Comma → {r : ParseResult (Read (Turn ActiveList))} →
         Unread stepped (stepping (ends l) t) (c + 1) (nodes ks k) r ks' →
         Untyped stepped (member_ending (ends l) t) tk c (nodes ks k) r ks'
     unfolding member_ending member_end consuming stepping
@@ -256,7 +256,7 @@ module _ (tk tv : List ℕ) (u c k : ℕ) (l : ActiveList) {ks : List ℕ} {o : 
     member-item-stopped q = hands_on _ (reads _ (skipped d x tv)) (told g q)
 
     pub member-item-read :
-        {v : Read NodeId} → r₁ ≡ Ok v → {r : ParseResult (Read Stepped)} {ks' : List ℕ} →
+        {v : Read NodeId} → r₁ ≡ Ok v → {r : ParseResult (Read (Turn ActiveList))} {ks' : List ℕ} →
         Untyped stepped (member_ending (ends l) v.value.0) tk v.cursor.0 (nodes ks₁ v.count) r ks' →
         As stepped (member_item words (row tk tv) u (ends l)) c (nodes ks k) r ks'
     unfolding member_item member_ending

@@ -17,11 +17,11 @@ use Rattle.codes.proofs.Onto.{Onto, stays, split}
 use Rattle.codes.proofs.Loops.{Going, sets-out, goes-round, held_in, same-held, turn-refused, turn_last, turn-again}
 use Rattle.codes.proofs.Loops.{round-over}
 use Rattle.nodes.specs.declared.ActiveList.{ActiveList}
+use Rattle.nodes.specs.declared.Turn.{Turn}
+use Rattle.nodes.specs.declared.Turn.TheVariants.{More, Last}
 use Rattle.nodes.specs.Answer.{WithinSlots, ends, active, past}
 use Rattle.nodes.proofs.Laws.{active-ends}
 use Rattle.nodes.proofs.Bounds.{slots}
-use Rattle.references.specs.declared.Stepped.{Stepped}
-use Rattle.references.specs.declared.Stepped.TheVariants.{More, Last}
 use Rattle.references.specs.Answer.{stepped}
 use Rattle.references.proofs.Laws.{plain-stepped}
 use Rattle.references.proofs.Bounds.{item-fits, step_fits}
@@ -77,7 +77,7 @@ unfolding member_list loop
 first_member tk tv u c s l q = rw q (sets-out _ stays)
 
 module _ (tk tv : List ℕ) (u c₀ : ℕ) {s₀ : Words} (l : ActiveList) {c k : ℕ} {ks : List ℕ}
-    (h : Members tk tv u c₀ s₀ l c (nodes ks k)) {z : ParseResult (Read Stepped)}
+    (h : Members tk tv u c₀ s₀ l c (nodes ks k)) {z : ParseResult (Read (Turn ActiveList))}
     {ks₁ : List ℕ}
     (g : As stepped (member_item words (row tk tv) u (ends l)) c (nodes ks k) z ks₁)
   where
@@ -93,7 +93,7 @@ module _ (tk tv : List ℕ) (u c₀ : ℕ) {s₀ : Words} (l : ActiveList) {c k 
         (λ m s. past (active m) ≤ s.count)
         (λ b p s e h. member-fits (row tk tv) u (ends l) e (rw (active-ends l) (omega arith))) g b q
 
-    module _ {v : Read Stepped} (q : z ≡ Ok v) {m : ActiveList} where
+    module _ {v : Read (Turn ActiveList)} (q : z ≡ Ok v) {m : ActiveList} where
       pub list_read :
           v.value ≡ Last m → {r : ParseResult (Read NodeId)} {ks₂ : List ℕ} →
           Gives (push_end_of_list (ends m)) v.cursor.0 (nodes ks₁ v.count) r ks₂ →

@@ -1,6 +1,6 @@
 // Constants, structs and words, after parse_constant_declaration to parse_struct_members and parse_member of the Rust's
-// parser.rs. The caller has taken the declaring token. In each, `unused` is the nesting (document 01's term) that is left
-// for the types and expressions inside.
+// parser.rs. The caller has taken the declaring token. In each, `unused` is the nesting (document 01's term) that is
+// left for the types and expressions inside.
 #![tactic(auto)]
 
 ghost use Rattle.std.specs.Prelude.{◌≡◌, ◌+◌, ◌≤◌};
@@ -20,27 +20,30 @@ use codes::{
 };
 use expressions::parse_expression;
 use nodes::{
-    ActiveList, push, push_end_of_list, push_list_item, push_older_node, push_two, start_list,
+    ActiveList, Turn, push, push_end_of_list, push_list_item, push_older_node, push_two, start_list,
 };
-use references::Stepped;
 use tokens::Row;
 use types::{parse_type, short_type};
 
-// Where a declaration starts, and its flags.
+// Where a declaration starts, and its flags. Each is a node's load.
 #[derive(Clone, Copy)]
 pub struct Declaration {
     pub start: TokenId,
     pub flags: u32,
+    pub ghost start_in: { start.0 ≤ Limits.Load },
+    pub ghost flags_in: { flags ≤ Limits.Load },
 }
 
-// A declaration and its name.
+// A declaration and its name, which is a node's load, too.
 #[derive(Clone, Copy)]
 struct Heading {
     declaration: Declaration,
     name: TokenId,
+    ghost name_in: { name.0 ≤ Limits.Load },
 }
 
 // A colon; or the refusal of this number at the token in its place, which is not taken.
+// It is no ok_or, by which a struct of many members takes 3 in 100 instructions more.
 fn parse_colon(row: &Row<'_>, cursor: TokenId, count: u32, number: u32) -> ParseResult<TokenId>
     requires { cursor.0 ≤ Limits.Tokens + 1 }
     ensures { Quiet consumed (coloned number) row.now.kinds.now cursor.0 count result }
@@ -136,7 +139,7 @@ fn finish_member(
     count: u32,
     list: ActiveList,
     member: NodeId,
-) -> ParseResult<Read<Stepped>>
+) -> ParseResult<Read<Turn<ActiveList>>>
     requires { (cursor.0 ≤ Limits.Tokens + 1) × WithinSlots node_words.old count ×
         (past list ≤ count) }
     ensures { Untyped stepped (member_ending (ends list) member.0) row.now.kinds.now
@@ -153,13 +156,13 @@ fn finish_member(
             } = push_list_item(node_words, next, count, list)?;
             if token == BaseToken::Comma {
                 Ok(Read {
-                    value: Stepped::More(grown),
+                    value: Turn::More(grown),
                     cursor,
                     count,
                 })
             } else {
                 Ok(Read {
-                    value: Stepped::Last(grown),
+                    value: Turn::Last(grown),
                     cursor,
                     count,
                 })
@@ -183,7 +186,7 @@ fn parse_member_item(
     count: u32,
     unused: u32,
     list: ActiveList,
-) -> ParseResult<Read<Stepped>>
+) -> ParseResult<Read<Turn<ActiveList>>>
     requires { Sized row.now.kinds.now row.now.types.now node_words.old cursor.0 count
         × (past list ≤ count) }
     ensures { As stepped
@@ -192,7 +195,7 @@ fn parse_member_item(
 {
     if let Some(cursor) = row.consume_optional(cursor, BaseToken::BraceRight) {
         return Ok(Read {
-            value: Stepped::Last(list),
+            value: Turn::Last(list),
             cursor,
             count,
         });
@@ -223,8 +226,8 @@ fn parse_rest_of_members(
         cursor = turn.cursor;
         count = turn.count;
         match turn.value {
-            Stepped::More(longer) => list = longer,
-            Stepped::Last(whole) => return push_end_of_list(node_words, cursor, count, whole),
+            Turn::More(longer) => list = longer,
+            Turn::Last(whole) => return push_end_of_list(node_words, cursor, count, whole),
         }
     }
 }
@@ -253,8 +256,7 @@ fn push_declaration(
     kind: u8,
     heading: Heading,
 ) -> Parsed
-    requires { WithinSlots node_words.old count × (heading.declaration.start.0 ≤ Limits.Load)
-        × (heading.declaration.flags ≤ Limits.Load) × (heading.name.0 ≤ Limits.Load) }
+    requires { WithinSlots node_words.old count }
     ensures { Gives
         (declaring kind heading.declaration.start.0 heading.declaration.flags heading.name.0)
         cursor.0 (nodes node_words.old count) result node_words.new }
@@ -279,9 +281,7 @@ fn push_structure(
     size: u32,
     list: NodeId,
 ) -> Parsed
-    requires { WithinSlots node_words.old count × (heading.declaration.start.0 ≤ Limits.Load)
-        × (heading.declaration.flags ≤ Limits.Load) × (size ≤ Limits.Load) ×
-        (heading.name.0 ≤ Limits.Load) × (list.0 ≤ Limits.Load) }
+    requires { WithinSlots node_words.old count × (size ≤ Limits.Load) × (list.0 ≤ Limits.Load) }
     ensures { Gives (structure words heading.declaration.start.0 heading.declaration.flags size
         heading.name.0 list.0) cursor.0 (nodes node_words.old count) result
         node_words.new }
@@ -313,8 +313,7 @@ fn parse_structure(
     size: u32,
 ) -> Parsed
     requires { Sized row.now.kinds.now row.now.types.now node_words.old cursor.0 count
-        × (heading.declaration.start.0 ≤ Limits.Load) × (heading.declaration.flags ≤ Limits.Load) ×
-        (size ≤ Limits.Load) × (heading.name.0 ≤ Limits.Load) }
+        × (size ≤ Limits.Load) }
     ensures { Gives (structured unused heading.declaration.start.0 heading.declaration.flags size
         heading.name.0 (row_of row.now.kinds.now row.now.types.now)) cursor.0
         (nodes node_words.old count) result node_words.new }
@@ -346,8 +345,7 @@ fn push_opaque_struct(
     count: u32,
     heading: Heading,
 ) -> Parsed
-    requires { WithinSlots node_words.old count × (heading.declaration.start.0 ≤ Limits.Load)
-        × (heading.declaration.flags ≤ Limits.Load) × (heading.name.0 ≤ Limits.Load) }
+    requires { WithinSlots node_words.old count }
     ensures { Gives (opaque_struct heading.declaration.start.0 heading.declaration.flags heading.name.0)
         cursor.0 (nodes node_words.old count) result node_words.new }
 {
@@ -358,8 +356,8 @@ fn push_opaque_struct(
         count,
     } = push_end_of_list(node_words, cursor, count, start_list())?;
     let declaration = Declaration {
+        start: declaration.start,
         flags: opaque_flags(declaration.flags),
-        ..declaration
     };
     push_structure(
         node_words,
@@ -380,8 +378,7 @@ pub fn parse_struct_declaration(
     unused: u32,
     declaration: Declaration,
 ) -> Parsed
-    requires { Sized row.now.kinds.now row.now.types.now node_words.old cursor.0 count
-        × (declaration.start.0 ≤ Limits.Load) × (declaration.flags ≤ Limits.Load) }
+    requires { Sized row.now.kinds.now row.now.types.now node_words.old cursor.0 count }
     ensures { Gives (struct words (row_of row.now.kinds.now row.now.types.now) unused
         declaration.start.0 declaration.flags) cursor.0 (nodes node_words.old count)
         result node_words.new }
@@ -397,7 +394,7 @@ pub fn parse_struct_declaration(
     }
 }
 
-// A word's size by its declaring token. What is none is told first: an entry has refused it, so that this test is
+// A word's size by its declaring token. What is none is told first: where an entry has refused it, this test is
 // compiled away.
 fn size_of_word(kind: u8) -> u32
     ensures { result ≡ size_of_word kind }
@@ -424,8 +421,7 @@ pub fn parse_word_declaration(
     declaration: Declaration,
     declaring_token: u8,
 ) -> Parsed
-    requires { Sized row.now.kinds.now row.now.types.now node_words.old cursor.0 count
-        × (declaration.start.0 ≤ Limits.Load) × (declaration.flags ≤ Limits.Load) }
+    requires { Sized row.now.kinds.now row.now.types.now node_words.old cursor.0 count }
     ensures { Gives (word words (row_of row.now.kinds.now row.now.types.now) unused
         declaration.start.0 declaration.flags declaring_token) cursor.0
         (nodes node_words.old count) result node_words.new }
@@ -474,9 +470,7 @@ fn push_constant(
     value_type: NodeId,
     value: NodeId,
 ) -> Parsed
-    requires { WithinSlots node_words.old count × (heading.declaration.start.0 ≤ Limits.Load)
-        × (heading.declaration.flags ≤ Limits.Load) × (heading.name.0 ≤ Limits.Load) ×
-        (value_type.0 ≤ Limits.Load) }
+    requires { WithinSlots node_words.old count × (value_type.0 ≤ Limits.Load) }
     ensures { Gives (constant_end words heading.declaration.start.0 heading.declaration.flags
         heading.name.0 value_type.0 value.0) cursor.0 (nodes node_words.old count)
         result node_words.new }
@@ -502,8 +496,7 @@ fn parse_rest_of_constant(
     value_type: NodeId,
 ) -> Parsed
     requires { Sized row.now.kinds.now row.now.types.now node_words.old cursor.0 count
-        × (heading.declaration.start.0 ≤ Limits.Load) × (heading.declaration.flags ≤ Limits.Load) ×
-        (heading.name.0 ≤ Limits.Load) × (value_type.0 ≤ Limits.Load) }
+        × (value_type.0 ≤ Limits.Load) }
     ensures { Gives (valued unused heading.declaration.start.0 heading.declaration.flags heading.name.0
         value_type.0 (row_of row.now.kinds.now row.now.types.now)) cursor.0
         (nodes node_words.old count) result node_words.new }
@@ -525,8 +518,7 @@ pub fn parse_constant_declaration(
     unused: u32,
     declaration: Declaration,
 ) -> Parsed
-    requires { Sized row.now.kinds.now row.now.types.now node_words.old cursor.0 count
-        × (declaration.start.0 ≤ Limits.Load) × (declaration.flags ≤ Limits.Load) }
+    requires { Sized row.now.kinds.now row.now.types.now node_words.old cursor.0 count }
     ensures { Gives (constant words (row_of row.now.kinds.now row.now.types.now) unused
         declaration.start.0 declaration.flags) cursor.0 (nodes node_words.old count)
         result node_words.new }

@@ -12,8 +12,8 @@ pub record SizesFit (r : Sizes) : Type 0 where
   pub types : r.types ≤ QuestionLimits.tokens
 
 -- So are those of a row, and its text is the beginning of the line. Whether the line is good, and which question,
--- lengths and tokens it says, is free: the program's output shows it, a reply for each line. The tokens are within their
--- limit, since crate row_text's columns hold no more.
+-- lengths and tokens it says, is free: the program's output shows it, a reply for each line. The tokens are within
+-- their limit, since crate row_text's columns hold no more.
 pub record Fits (line : List ℕ) (r : Row) : Type 0 where
   pub text : r.text.now ≡ take (length r.text.now) line
   pub sizes : SizesFit r.sizes

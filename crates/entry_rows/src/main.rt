@@ -26,13 +26,11 @@ use row_text::Tokens;
 use show::{Columns, Reply};
 use std::io::{Result, Write};
 
-// The file number of standard input. Crate io reads into a buffer, where std's read_to_end needs a heap.
-const STDIN: i32 = 0;
-
 // The most bytes of the input, and one more.
 const INPUT: usize = 524_288;
 
-// What the entry replies to the question about a row, with these node kinds and loads lent to it.
+// What the entry replies to the question about a row, with these node kinds and loads lent to it. By a match, since the
+// entries take different parameters.
 fn ask(
     question: Question,
     tokens: &tokens::Row<'_>,
@@ -95,7 +93,8 @@ fn show(
     writeln!(out, "{}, {frame}{appended}", Reply(reply))
 }
 
-// The text of a row, and the reply to it. The two node columns are no struct, of which a proof lends one field at a time.
+// The text of a row, and the reply to it. The two node columns are no struct: an entry is lent both at once, and of a
+// struct a proof lends one field at a time.
 fn show_row(
     out: &mut impl Write,
     row: Row<'_>,
@@ -142,37 +141,23 @@ fn show_line(
     }
 }
 
-fn show_lines(
-    out: &mut impl Write,
-    input: &[u8],
-    tokens: &mut Tokens,
-    node_kinds: &mut [u8; SLOTS],
-    node_loads: &mut [u32; SLOTS],
-) -> Result<()> {
-    for line in input.split_inclusive(|byte| *byte == b'\n') {
-        let line = line.strip_suffix(b"\n").unwrap_or(line);
-        show_line(out, line, tokens, node_kinds, node_loads)?;
-    }
-    Ok(())
-}
-
 // The columns stand here once, and are lent to each row.
 fn main(rt: HostRuntime) -> Result<()> {
     let mut out = rt.stdout();
     let mut tokens = Tokens::new();
     let mut node_kinds = [0; SLOTS];
     let mut node_loads = [0; SLOTS];
-    let mut input = [0; INPUT];
-    let length = io::read_full(STDIN, &mut input);
-    if length == input.len() {
+    let mut buffer = [0; INPUT];
+    let Some(input) = row_text::read_input(&mut buffer) else {
         return out.write_all(b"bad file\n");
-    }
-    let input = &input[..length];
-    show_lines(
-        &mut out,
-        input,
-        &mut tokens,
-        &mut node_kinds,
-        &mut node_loads,
-    )
+    };
+    row_text::show_lines(input, |line| {
+        show_line(
+            &mut out,
+            line,
+            &mut tokens,
+            &mut node_kinds,
+            &mut node_loads,
+        )
+    })
 }

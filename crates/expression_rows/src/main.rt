@@ -11,9 +11,6 @@ use show::{Reply, Shown};
 use std::io::{Result, Write};
 use tokens::Row;
 
-// The file number of standard input. Crate io reads into a buffer, where std's read_to_end needs a heap.
-const STDIN: i32 = 0;
-
 // The slots, of which a row says how many are lent.
 const SLOTS: usize = 512;
 
@@ -52,15 +49,10 @@ fn show_line(out: &mut impl Write, line: &[u8], tokens: &mut Tokens) -> Result<(
 
 fn main(rt: HostRuntime) -> Result<()> {
     let mut out = rt.stdout();
-    let mut input = io::large_buffer();
-    let length = io::read_full(STDIN, &mut input);
-    if length == input.len() {
+    let mut buffer = io::large_buffer();
+    let Some(input) = row_text::read_input(&mut buffer) else {
         return out.write_all(b"bad file\n");
-    }
+    };
     let mut tokens = Tokens::new();
-    for line in input[..length].split_inclusive(|byte| *byte == b'\n') {
-        let line = line.strip_suffix(b"\n").unwrap_or(line);
-        show_line(&mut out, line, &mut tokens)?;
-    }
-    Ok(())
+    row_text::show_lines(input, |line| show_line(&mut out, line, &mut tokens))
 }

@@ -115,13 +115,6 @@ module _ {o : Opening} (g : Fits o) {p : TokenId} {j : ℕ} where
   pub fields_fit : {name : TokenId} → o ≡ Fields p j name → name.0 ≤ Limit.Load
   fields_fit q = rw q at g
 
-  module _ {isPointer : Bool} {depth : ℕ} {name : TokenId} (q : o ≡ Reference p j isPointer depth name) where
-    pub depth-fits : depth ≤ Limit.Load
-    depth-fits = (rw q at g).0
-
-    pub name-fits : name.0 ≤ Limit.Load
-    name-fits = (rw q at g).1
-
 -- after a name and its steps
 module _ {tk tv ns : List ℕ} {c k : ℕ} (u start depth name : ℕ) {r : ParseResult (Read NodeId)} {ns' : List ℕ}
     (g : Gives (within (dereferring start depth name) u (row tk tv)) c (nodes ns k) r ns') {v : Read NodeId}

@@ -1,5 +1,5 @@
 -- The items of a list: what their loop keeps between two rounds, and a law for each return.
-use mathlib.Core.Path.{◌≡◌, refl, sym, ◌∙◌, ap}
+use mathlib.Core.Path.{◌≡◌, refl, ap}
 use mathlib.Core.Bool.{Bool, true, false}
 use mathlib.Core.List.{List}
 use mathlib.Core.Option.{none}
@@ -18,12 +18,12 @@ use Rattle.codes.proofs.Loops.{Going, sets-out, goes-round, held_in, same-held, 
 use Rattle.codes.proofs.Loops.{round-over}
 use Rattle.nodes.specs.declared.ActiveList.{ActiveList}
 use Rattle.nodes.specs.Answer.{WithinSlots, ends, active, past}
-use Rattle.nodes.proofs.Laws.{active-ends, past-none}
+use Rattle.nodes.proofs.Laws.{active-ends, past-none, more-turn, last-turn}
 use Rattle.nodes.proofs.Bounds.{slots}
 use Rattle.lists.specs.declared.CountedList.{CountedList}
-use Rattle.lists.specs.declared.Turn.{Turn}
-use Rattle.lists.specs.declared.Turn.TheVariants.{More, Last}
-use Rattle.lists.specs.Answer.{Counted, counted, turned}
+use Rattle.nodes.specs.declared.Turn.{Turn}
+use Rattle.nodes.specs.declared.Turn.TheVariants.{More, Last}
+use Rattle.lists.specs.Answer.{Counted, counted, counted_list, turned}
 use Rattle.lists.proofs.Laws.{counted-back, plain-turned}
 use Rattle.lists.proofs.Bounds.{Fits, item-turn}
 use Rattle.openings.specs.Answer.{listed}
@@ -93,14 +93,12 @@ item-fits at u closing l {c} {s} {b} {c'} {s'} e room h f =
         item-turn at closing l _ w.two (omega (arith, g.grew))
 
 -- a turn of the code is that of the rules
-module _ {z : ParseResult (Read Turn)} {v : Read Turn} (w : z ≡ Ok v) {m : CountedList} where
+module _ {z : ParseResult (Read (Turn CountedList))} {v : Read (Turn CountedList)} (w : z ≡ Ok v) {m : CountedList} where
   more_same : v.value ≡ More m → z ≡ Ok (turned (again (counted m)) (state v.cursor v.count))
-  more_same e =
-      w ∙ ap (λ (t : Turn). Ok (record { value = t; cursor = v.cursor; count = v.count })) (e ∙ ap More (sym (counted-back m)))
+  more_same e = more-turn counted_list w (counted-back m) e
 
   last-same : v.value ≡ Last m → z ≡ Ok (turned (done (counted m)) (state v.cursor v.count))
-  last-same e =
-      w ∙ ap (λ (t : Turn). Ok (record { value = t; cursor = v.cursor; count = v.count })) (e ∙ ap Last (sym (counted-back m)))
+  last-same e = last-turn counted_list w (counted-back m) e
 
 -- the closing tokens are no EndOfSource, and have refusals of their own
 closings : (owner : Owner) → Nonzero (refusal_of (closing_of owner)) × Nonzero (closing_of owner)
@@ -137,12 +135,12 @@ pub none-fits : (l : ActiveList) → ends l ≡ none → (k : ℕ) → past l �
 none-fits l q k = let e = past-none l q in omega arith
 
 module _ (tk tv : List ℕ) (u : ℕ) (owner : Owner) (closing c₀ : ℕ) {s₀ : Words} (l : CountedList) (c k : ℕ)
-    {ks : List ℕ} (h : Items tk tv u owner closing c₀ s₀ l c (nodes ks k)) {z : ParseResult (Read Turn)} {ks₁ : List ℕ}
+    {ks : List ℕ} (h : Items tk tv u owner closing c₀ s₀ l c (nodes ks k)) {z : ParseResult (Read (Turn CountedList))} {ks₁ : List ℕ}
     (g : As turned (list_items closing (counted l) u (row tk tv)) c (nodes ks k) z ks₁) where
   pub list-refused : {e : ParsingError} → z ≡ Err e → Gives (within (listed owner) u (row tk tv)) c₀ s₀ (Err e) ks₁
   list-refused w = turn-refused _ _ _ _ _ h.1.onto g w
 
-  module _ {v : Read Turn} (w : z ≡ Ok v) where
+  module _ {v : Read (Turn CountedList)} (w : z ≡ Ok v) where
     pub list_read :
         {m : CountedList} → v.value ≡ Last m → {r : ParseResult (Read NodeId)} {ks₂ : List ℕ} →
         Gives (list_end words owner (counted m)) v.cursor.0 (nodes ks₁ v.count) r ks₂ →

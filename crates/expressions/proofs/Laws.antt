@@ -25,8 +25,8 @@ use Rattle.casts.specs.Answer.{Casting, cast_at}
 use Rattle.references.specs.Answer.{closing}
 use Rattle.lists.specs.declared.CountedList.{CountedList}
 use Rattle.lists.specs.declared.Owner.{Owner}
-use Rattle.lists.specs.declared.Turn.{Turn}
-use Rattle.lists.specs.declared.Turn.TheVariants.{Last}
+use Rattle.nodes.specs.declared.Turn.{Turn}
+use Rattle.nodes.specs.declared.Turn.TheVariants.{Last}
 use Rattle.lists.specs.Answer.{owner_of, counted, counted_list, turned, ending, field_end, shorthand_end}
 use Rattle.lists.proofs.Laws.{counted-back}
 use Rattle.literals.specs.Answer.{Literal, Lone}
@@ -418,7 +418,7 @@ module _ (tk tv : List ℕ) (u closing c k : ℕ) (l : CountedList) {ks : List �
     item-refused q = rw h (hands_on _ (reads _ (skipped d x tv)) (told g q))
 
     pub item-read :
-        {v : Read NodeId} → r₁ ≡ Ok v → {r : ParseResult (Read Turn)} {ks' : List ℕ} →
+        {v : Read NodeId} → r₁ ≡ Ok v → {r : ParseResult (Read (Turn CountedList))} {ks' : List ℕ} →
         Untyped turned (ending closing (counted l) v.value.0) tk v.cursor.0 (nodes ks₁ v.count) r ks' →
         As turned (list_items closing (counted l) u (row tk tv)) c (nodes ks k) r ks'
     unfolding list_items list_item ending
@@ -427,7 +427,7 @@ module _ (tk tv : List ℕ) (u closing c k : ℕ) (l : CountedList) {ks : List �
 -- a field after which the list may end
 pub field-item :
     (tk tv : List ℕ) (u c : ℕ) (l : CountedList) {s : Words} {o : Optional TokenId} →
-    Optionally tk BaseToken.BraceRight c o → o ≡ None → {r : ParseResult (Read Turn)} {ks' : List ℕ} →
+    Optionally tk BaseToken.BraceRight c o → o ≡ None → {r : ParseResult (Read (Turn CountedList))} {ks' : List ℕ} →
     As turned (fields (counted l) u (row tk tv)) c s r ks' →
     As turned (list_items BaseToken.BraceRight (counted l) u (row tk tv)) c s r ks'
 unfolding list_items list_item fields
@@ -454,7 +454,7 @@ module _ (tk tv : List ℕ) (u c : ℕ) (l : CountedList) {k : ℕ} {ks : List �
         first _ (at_here _ then reads _ (came-consumed _ g q tv ks) then reads _ e) then regroup _ _ _ _ _
 
     pub field-short :
-        v ≡ None → {r : ParseResult (Read Turn)} {ks' : List ℕ} →
+        v ≡ None → {r : ParseResult (Read (Turn CountedList))} {ks' : List ℕ} →
         Untyped turned (shorthand_end (counted l) c) tk w.0 (nodes ks k) r ks' →
         As turned (fields (counted l) u (row tk tv)) c (nodes ks k) r ks'
     unfolding shorthand_end
@@ -468,7 +468,7 @@ module _ (tk tv : List ℕ) (u c : ℕ) (l : CountedList) {k : ℕ} {ks : List �
       field-refused y = hands_on _ (field-on true (taken d x tv)) (told f y)
 
       pub field-read :
-          {a : Read NodeId} → r₁ ≡ Ok a → {r : ParseResult (Read Turn)} {ks' : List ℕ} →
+          {a : Read NodeId} → r₁ ≡ Ok a → {r : ParseResult (Read (Turn CountedList))} {ks' : List ℕ} →
           Untyped turned (field_end (counted l) c a.value.0) tk a.cursor.0 (nodes ks₁ a.count) r ks' →
           As turned (fields (counted l) u (row tk tv)) c (nodes ks k) r ks'
       field-read y h = shows (field-on true (taken d x tv) then reads _ (came-node f y)) (h.run tv)

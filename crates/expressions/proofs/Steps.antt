@@ -1,5 +1,5 @@
 -- The steps of a reference: what their loop keeps between two rounds, and a law for each return.
-use mathlib.Core.Path.{◌≡◌, refl, sym, ◌∙◌, ap}
+use mathlib.Core.Path.{◌≡◌, refl, ap}
 use mathlib.Core.Bool.{Bool, true, false}
 use mathlib.Core.List.{List, [], ◌∷◌}
 use mathlib.Core.Option.{Option, none}
@@ -15,13 +15,13 @@ use Rattle.codes.proofs.Onto.{Onto, ◌then◌, first, reads, regroup, at_here, 
 use Rattle.codes.proofs.Onto.{hands_on, came-node, Rest, split}
 use Rattle.codes.proofs.Loops.{held_in, same-held, turn-refused, turn_last, turn-again, round-over}
 use Rattle.nodes.specs.declared.ActiveList.{ActiveList}
+use Rattle.nodes.specs.declared.Turn.{Turn}
+use Rattle.nodes.specs.declared.Turn.TheVariants.{More, Last}
 use Rattle.nodes.specs.Answer.{WithinSlots, ends, active, past}
-use Rattle.nodes.proofs.Laws.{active-ends}
+use Rattle.nodes.proofs.Laws.{active-ends, more-turn, last-turn}
 use Rattle.nodes.proofs.Bounds.{slots}
 use Rattle.tokens.specs.Answer.{kind_in}
 use Rattle.tokens.proofs.Laws.{there, not_there, apart}
-use Rattle.references.specs.declared.Stepped.{Stepped}
-use Rattle.references.specs.declared.Stepped.TheVariants.{More, Last}
 use Rattle.references.specs.Answer.{stepped, one_more, elementing, membering, deref_end}
 use Rattle.references.proofs.Laws.{plain-stepped}
 use Rattle.references.proofs.Bounds.{step_fits}
@@ -99,14 +99,12 @@ step-none tk tv u c k t peeked l {ks} h =
     rw (active-ends l) at g
 
 -- a step of the code is that of the rules
-module _ {z : ParseResult (Read Stepped)} {v : Read Stepped} (w : z ≡ Ok v) {m : ActiveList} where
+module _ {z : ParseResult (Read (Turn ActiveList))} {v : Read (Turn ActiveList)} (w : z ≡ Ok v) {m : ActiveList} where
   pub more_same : v.value ≡ More m → z ≡ Ok (stepped (again (ends m)) (state v.cursor v.count))
-  more_same e =
-      w ∙ ap (λ (t : Stepped). Ok (record { value = t; cursor = v.cursor; count = v.count })) (e ∙ ap More (sym (active-ends m)))
+  more_same e = more-turn active w (active-ends m) e
 
   pub last-same : v.value ≡ Last m → z ≡ Ok (stepped (done (ends m)) (state v.cursor v.count))
-  last-same e =
-      w ∙ ap (λ (t : Stepped). Ok (record { value = t; cursor = v.cursor; count = v.count })) (e ∙ ap Last (sym (active-ends m)))
+  last-same e = last-turn active w (active-ends m) e
 
 -- after a step, or none: the list's end is among the nodes
 stepped-fits :
@@ -133,9 +131,9 @@ stepped-fits at expr l {s = s} {b = b} {c' = c'} {s' = s'} e h = let w = split e
     by-bracket true e = step_fits at l _ (split (split e).two).two h
     by-bracket false e = let w = split e in by-dot w.value w.two
 
-module _ {tk tv ns : List ℕ} (u c k : ℕ) (l : ActiveList) {r : ParseResult (Read Stepped)} {ns' : List ℕ}
+module _ {tk tv ns : List ℕ} (u c k : ℕ) (l : ActiveList) {r : ParseResult (Read (Turn ActiveList))} {ns' : List ℕ}
     (g : As stepped (stepping (ends l) u (row tk tv)) c (nodes ns k) r ns') (z : Sized tk tv ns c k)
-    (h : past l ≤ k) {v : Read Stepped} (w : r ≡ Ok v) where
+    (h : past l ≤ k) {v : Read (Turn ActiveList)} (w : r ≡ Ok v) where
   -- what the rules read is b
   step_after :
       (b : Step (Option Ends) (Option Ends)) → r ≡ Ok (stepped b (state v.cursor v.count)) →
@@ -195,14 +193,14 @@ module _ (tk tv : List ℕ) (u start depth name c₀ : ℕ) {s₀ : Words} (n : 
         (suc (Limit.ReferenceDepth - (n + 1))) (ends l) >>= λ m. deref_end m start depth name) c (nodes ks k)
     going = rw left at h
 
-    module _ {z : ParseResult (Read Stepped)} {ks₁ : List ℕ}
+    module _ {z : ParseResult (Read (Turn ActiveList))} {ks₁ : List ℕ}
         (g : As stepped (stepping (ends l) u (row tk tv)) c (nodes ks k) z ks₁) where
       pub steps-refused :
           {e : ParsingError} → z ≡ Err e → Gives (within (dereferring start depth name) u (row tk tv)) c₀ s₀ (Err e) ks₁
       unfolding stepping
       steps-refused w = turn-refused _ _ _ _ _ going g w
 
-      module _ {v : Read Stepped} (w : z ≡ Ok v) {m : ActiveList} where
+      module _ {v : Read (Turn ActiveList)} (w : z ≡ Ok v) {m : ActiveList} where
         pub steps-read :
             v.value ≡ Last m → {r : ParseResult (Read NodeId)} {ks₂ : List ℕ} →
             Gives (deref_end (ends m) start depth name) v.cursor.0 (nodes ks₁ v.count) r ks₂ →

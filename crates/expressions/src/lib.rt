@@ -22,19 +22,17 @@ use codes::{
     Refusal, TokenId, UnaryOp,
 };
 use lists::{
-    CountedList, Owner, Turn, closing_of, finish_field, finish_fields, finish_item, finish_list,
+    CountedList, Owner, closing_of, finish_field, finish_fields, finish_item, finish_list,
     finish_shorthand,
 };
 use literals::{lone_integer, parse_literal};
-use nodes::{ActiveList, push, start_list};
+use nodes::{ActiveList, Turn, push, start_list};
 use openings::{Opening, parse_opening};
 use operators::{
-    Pending, factor_operator, next_operator, no_pending, push_binary, push_pending, push_prefix,
-    takes_unary,
+    Joint, Pending, join_factor, join_term, no_pending, push_binary, push_prefix, takes_unary,
 };
 use references::{
-    Address, Reference, Stepped, exceeded, finish_element, parse_member, push_closed, push_deref,
-    push_name,
+    Address, Reference, exceeded, finish_element, parse_member, push_closed, push_deref, push_name,
 };
 use tokens::Row;
 
@@ -134,7 +132,8 @@ pub fn parse_expression(
 
 // Rust: parse_addition. Products joined by `+` or `-`, and what may follow them. The Rust reads on after a bitwise
 // operator or a shift in parse_rest_of_bitwise_expression and parse_rest_of_bitshift_operation; here the pending operator
-// says so.
+// says so. This loop and that of multiplication are two, since they differ in what reads an operand and in which
+// operators go on: one function would take both as closures, within a cycle.
 #[cycle(expression)]
 fn addition(
     row: &Row<'_>,
@@ -151,17 +150,22 @@ fn addition(
     loop {
         let bare = takes_unary(pending);
         let right = multiplication(row, node_words, cursor, count, unused, bare)?;
-        let sum = push_pending(node_words, right.cursor, right.count, right.value, pending)?;
-        let Some(op) = next_operator(pending, row.peek(sum.cursor)) else {
-            return Ok(sum);
-        };
-        pending = Pending {
-            op,
-            left: sum.value,
-            at: sum.cursor,
-        };
-        cursor = TokenId(sum.cursor.0 + 1);
-        count = sum.count;
+        match join_term(
+            row,
+            node_words,
+            right.cursor,
+            right.count,
+            right.value,
+            pending,
+        ) {
+            Joint::More(more) => {
+                pending = more.value;
+                cursor = more.cursor;
+                count = more.count;
+            }
+            Joint::Last(sum) => return Ok(sum),
+            Joint::Refused(error) => return Err(error),
+        }
     }
 }
 
@@ -185,17 +189,22 @@ fn multiplication(
         if bare {
             return Ok(right);
         }
-        let product = push_pending(node_words, right.cursor, right.count, right.value, pending)?;
-        let Some(op) = factor_operator(row.peek(product.cursor)) else {
-            return Ok(product);
-        };
-        pending = Pending {
-            op,
-            left: product.value,
-            at: product.cursor,
-        };
-        cursor = TokenId(product.cursor.0 + 1);
-        count = product.count;
+        match join_factor(
+            row,
+            node_words,
+            right.cursor,
+            right.count,
+            right.value,
+            pending,
+        ) {
+            Joint::More(more) => {
+                pending = more.value;
+                cursor = more.cursor;
+                count = more.count;
+            }
+            Joint::Last(product) => return Ok(product),
+            Joint::Refused(error) => return Err(error),
+        }
     }
 }
 
@@ -329,9 +338,7 @@ fn reference(
     reference: Reference,
     pointer: bool,
 ) -> Parsed
-    requires { Sized row.now.kinds.now row.now.types.now node_words.old cursor.0 count ×
-        (reference.start.0 ≤ Limits.Load) × (reference.address.depth ≤ Limits.Load) ×
-        (reference.address.name.0 ≤ Limits.Load) }
+    requires { Sized row.now.kinds.now row.now.types.now node_words.old cursor.0 count }
     ensures { Gives (within
         (referred reference.start.0 reference.address.depth reference.address.name.0 pointer)
         unused (row_of row.now.kinds.now row.now.types.now)) cursor.0
@@ -391,8 +398,8 @@ fn advance(
 }
 
 // Arguments or elements, whose opening token is taken. The Rust has a loop for each, in parse_rest_of_arguments and
-// parse_primary_expression. Fields have a loop of their own, below: with one loop for all three each turn asked whether
-// its item is a field, and was slower.
+// parse_primary_expression. Fields have a loop of their own, below: one loop for all three would ask at each turn
+// whether its item is a field.
 #[cycle(expression)]
 fn rest_of_list(
     row: &Row<'_>,
@@ -433,7 +440,7 @@ fn item(
     unused: u32,
     list: CountedList,
     closing: u8,
-) -> ParseResult<Read<Turn>>
+) -> ParseResult<Read<Turn<CountedList>>>
     requires { Sized row.now.kinds.now row.now.types.now node_words.old cursor.0 count ×
         (past list.list ≤ count) × (list.items ≤ count) ×
         (eqb closing Token.BraceRight ≡ false) }
@@ -501,7 +508,7 @@ fn next_field(
     count: u32,
     unused: u32,
     list: CountedList,
-) -> ParseResult<Read<Turn>>
+) -> ParseResult<Read<Turn<CountedList>>>
     requires { Sized row.now.kinds.now row.now.types.now node_words.old cursor.0 count ×
         (past list.list ≤ count) × (list.items ≤ count) }
     ensures { As turned
@@ -528,7 +535,7 @@ fn field(
     count: u32,
     unused: u32,
     list: CountedList,
-) -> ParseResult<Read<Turn>>
+) -> ParseResult<Read<Turn<CountedList>>>
     requires { Sized row.now.kinds.now row.now.types.now node_words.old cursor.0 count ×
         (past list.list ≤ count) × (list.items ≤ count) }
     ensures { As turned
@@ -562,9 +569,7 @@ fn deref_steps(
     unused: u32,
     reference: Reference,
 ) -> Parsed
-    requires { Sized row.now.kinds.now row.now.types.now node_words.old cursor.0 count ×
-        (reference.start.0 ≤ Limits.Load) × (reference.address.depth ≤ Limits.Load) ×
-        (reference.address.name.0 ≤ Limits.Load) }
+    requires { Sized row.now.kinds.now row.now.types.now node_words.old cursor.0 count }
     ensures { Gives (within
         (dereferring reference.start.0 reference.address.depth reference.address.name.0)
         unused (row_of row.now.kinds.now row.now.types.now)) cursor.0
@@ -577,8 +582,8 @@ fn deref_steps(
         cursor = turn.cursor;
         count = turn.count;
         match turn.value {
-            Stepped::More(longer) => list = longer,
-            Stepped::Last(whole) => return push_deref(node_words, cursor, count, whole, reference),
+            Turn::More(longer) => list = longer,
+            Turn::Last(whole) => return push_deref(node_words, cursor, count, whole, reference),
         }
     }
     Err(exceeded(cursor, count, start))
@@ -593,42 +598,37 @@ fn step(
     count: u32,
     unused: u32,
     list: ActiveList,
-) -> ParseResult<Read<Stepped>>
+) -> ParseResult<Read<Turn<ActiveList>>>
     requires { Sized row.now.kinds.now row.now.types.now node_words.old cursor.0 count ×
         (past list ≤ count) }
     ensures { As stepped (stepping (ends list) unused (row_of row.now.kinds.now row.now.types.now))
         cursor.0 (nodes node_words.old count) result node_words.new }
 {
     let after = TokenId(cursor.0 + 1);
-    match row.peek(cursor) {
+    let longer = match row.peek(cursor) {
         BaseToken::BracketLeft => {
             let index = parse_expression(row, node_words, after, count, unused)?;
-            let longer = finish_element(
+            finish_element(
                 row,
                 node_words,
                 index.cursor,
                 index.count,
                 list,
                 index.value,
-            )?;
-            Ok(Read {
-                value: Stepped::More(longer.value),
-                cursor: longer.cursor,
-                count: longer.count,
-            })
+            )?
         }
-        BaseToken::Dot => {
-            let longer = parse_member(row, node_words, after, count, list)?;
-            Ok(Read {
-                value: Stepped::More(longer.value),
-                cursor: longer.cursor,
-                count: longer.count,
-            })
+        BaseToken::Dot => parse_member(row, node_words, after, count, list)?,
+        _ => {
+            return Ok(Read {
+                value: Turn::Last(list),
+                cursor,
+                count,
+            });
         }
-        _ => Ok(Read {
-            value: Stepped::Last(list),
-            cursor,
-            count,
-        }),
-    }
+    };
+    Ok(Read {
+        value: Turn::More(longer.value),
+        cursor: longer.cursor,
+        count: longer.count,
+    })
 }

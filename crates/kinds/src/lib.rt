@@ -42,7 +42,8 @@ fn word(kinds: &[u8; KINDS]) -> u64
     u64::from_le_bytes(*kinds)
 }
 
-// A word with so much added to each byte that one above the limit gets its top bit set.
+// A word with so much added to each byte that one above the limit gets its top bit set. The limit is a number with a
+// clause, and no type, since rest_passes takes any.
 fn sum(word: u64, limit: u8) -> u64
     requires { limit < most_without_top }
     ensures { result ≡ Test.sum limit word }
@@ -83,7 +84,8 @@ fn none_above(column: &[u8], limit: u8) -> bool
 }
 
 // Four words more. Each has a lane, a place of its own in a turn, where it is put together with those of the turns before
-// it, and so are their sums.
+// it, and so are their sums. The lanes are counted, and not zipped, since of what is written through a zipped iterator a
+// proof knows no value.
 fn join_words(kinds: &[u8; TOKENS], limit: u8, tops: &mut [u64; WORDS], sums: &mut [u64; WORDS])
     requires { limit < most_without_top }
     ensures { (row : List ℕ) → Joined limit row tops.old sums.old → Joined limit (row ++ kinds.now) tops.new sums.new }

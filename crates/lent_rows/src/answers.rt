@@ -1,16 +1,18 @@
 // The answers as numbers, which can be compared.
-ghost use Rattle.std.specs.Prelude.{true, ◌≡◌, ◌≤◌};
+ghost use Rattle.std.specs.Prelude.{true, ◌≡◌, ◌≤◌, Some};
 ghost use Rattle.rules.specs.Codes.Limit as Limits;
 ghost use Rattle.codes.specs.Words.{Quiet};
 ghost use Rattle.tokens.specs.Answer.{consumed};
 ghost use Rattle.reader.specs.Answer.{ending};
-ghost use Rattle.lent_rows.specs.Numbers.{accepted, of_taken, of_refusal, of_parsed, of_consumed};
+ghost use Rattle.lent_rows.specs.Numbers.{accepted, of_taken, of_refusal, of_parsed, of_consumed, text};
 
 use codes::{BaseToken, ParseResult, Parsed, ParsingError, TokenId};
 use std::fmt;
 use tokens::{Row, Taken};
 
-// A refusal's five numbers. An acceptance has number 0 and its root, or a token's kind, as start and end.
+// A refusal's five numbers. An acceptance has number 0, which no refusal has, and its root, or a token's kind, as start
+// and end. These are compared, and not the answers, whose five types in crates codes and tokens would each derive an
+// equality that no reader needs.
 #[derive(Clone, Copy, PartialEq, Eq)]
 pub struct Numbers {
     pub number: u32,
@@ -82,6 +84,8 @@ impl From<ParseResult<TokenId>> for Numbers {
 
 // `ok` and the cursor, or `no` and number, start, end and cursor.
 impl fmt::Display for Numbers {
+    ghost output = { λ numbers. Some (text numbers) };
+
     fn fmt<W: fmt::Write>(&self, f: &mut fmt::Formatter<W>) -> fmt::Result {
         if self.number == 0 {
             write!(f, "ok {}", self.cursor)

@@ -18,9 +18,6 @@ use tokens::{Row, Taken};
 mod answers;
 mod lists;
 
-// The file number of standard input.
-const STDIN: i32 = 0;
-
 // The last of the kinds of tokens.
 const LAST_KIND: u8 = BaseToken::Error;
 
@@ -117,16 +114,12 @@ fn show_list(out: &mut impl Write, slots: usize) -> Result<()>
 
 fn main(rt: HostRuntime) -> Result<()> {
     let mut out = rt.stdout();
-    let mut input = io::large_buffer();
-    let length = io::read_full(STDIN, &mut input);
-    if length == input.len() {
+    let mut buffer = io::large_buffer();
+    let Some(input) = row_text::read_input(&mut buffer) else {
         return out.write_all(b"bad file\n");
-    }
+    };
     let mut tokens = Tokens::new();
-    for line in input[..length].split_inclusive(|byte| *byte == b'\n') {
-        let line = line.strip_suffix(b"\n").unwrap_or(line);
-        show_line(&mut out, line, &mut tokens)?;
-    }
+    row_text::show_lines(input, |line| show_line(&mut out, line, &mut tokens))?;
     out.write_all(b"\n# Three items, with 0 to 7 slots\n")?;
     for slots in 0..=SLOTS {
         show_list(&mut out, slots)?;

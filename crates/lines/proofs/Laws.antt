@@ -7,7 +7,7 @@ use Rattle.std.proofs.lemmas.List.Sums.{prefix_len_passes, fold_more}
 use Rattle.std.proofs.lemmas.List.{get_or-take, drop-drop}
 use lib.Pointwise.{pointwise}
 use Rattle.lines.specs.Line.{Within, after_name}
-use Rattle.lines.specs.Numbers.{digit_of, digits_in, value_of}
+use Rattle.lines.specs.Numbers.{value_of_digit, digits_in, value_of}
 
 -- the end of the end of a line
 pub within-more : {line rest end : List ℕ} → Within line rest → Within rest end → Within line end
@@ -32,21 +32,21 @@ after-some [] (letter ∷ letters) e = cc
 after-some (byte ∷ rest) (letter ∷ letters) e = grind (arith, after-some rest letters)
 
 -- more digits make no smaller number
-no-smaller : (value : ℕ) (digits : List ℕ) → value ≤ fold (λ v d. v * 10 + digit_of d) value digits
+no-smaller : (value : ℕ) (digits : List ℕ) → value ≤ fold (λ v d. v * 10 + value_of_digit d) value digits
 no-smaller value [] = omega arith
-no-smaller value (byte ∷ rest) = let h = no-smaller (value * 10 + digit_of byte) rest in omega arith
+no-smaller value (byte ∷ rest) = let h = no-smaller (value * 10 + value_of_digit byte) rest in omega arith
 
 -- the first digits have no larger value than all of them
 grows : (value : ℕ) (digits : List ℕ) (n : ℕ) →
-    fold (λ v d. v * 10 + digit_of d) value (take n digits) ≤ fold (λ v d. v * 10 + digit_of d) value digits
+    fold (λ v d. v * 10 + value_of_digit d) value (take n digits) ≤ fold (λ v d. v * 10 + value_of_digit d) value digits
 grows value digits zero = no-smaller value digits
 grows value [] (suc n) = omega arith
-grows value (byte ∷ rest) (suc n) = grows (value * 10 + digit_of byte) rest n
+grows value (byte ∷ rest) (suc n) = grows (value * 10 + value_of_digit byte) rest n
 
 pub value-grows : (digits : List ℕ) (i : ℕ) → i < length digits →
-    value_of (take i digits) * 10 + digit_of (get_or digits i 0) ≤ value_of digits
+    value_of (take i digits) * 10 + value_of_digit (get_or digits i 0) ≤ value_of digits
 value-grows digits i h =
-    let f = λ (v d : ℕ). v * 10 + digit_of d in
+    let f = λ (v d : ℕ). v * 10 + value_of_digit d in
     rw (← fold_more f 0 digits i 0 h) (grows 0 digits (i + 1))
 
 -- the first bytes of a line that are digits

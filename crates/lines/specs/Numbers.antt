@@ -4,9 +4,9 @@ use Rattle.std.specs.Char.{is_ascii_digit}
 use Rattle.std.specs.List.{fold, prefix_len}
 use Rattle.lines.specs.Line.{Within}
 
--- the value of a digit
-abbrev pub digit_of : ℕ → ℕ
-digit_of byte = byte - 48
+-- the value of a byte that is a digit
+abbrev pub value_of_digit : ℕ → ℕ
+value_of_digit byte = byte - 48
 
 -- how many digits begin a line
 abbrev pub digits_in : List ℕ → ℕ
@@ -14,7 +14,7 @@ digits_in line = prefix_len is_ascii_digit line
 
 -- the value of digits
 abbrev pub value_of : List ℕ → ℕ
-value_of digits = fold (λ value byte. value * 10 + digit_of byte) 0 digits
+value_of digits = fold (λ value byte. value * 10 + value_of_digit byte) 0 digits
 
 -- a number, and what stands after it
 pub record Decimal : Type 0 where
@@ -27,7 +27,8 @@ decimal value rest = record { value = value; rest = rest }
 -- the number of the first so many bytes of a line, or that there is none that is at most `most`
 abbrev pub decimal_of : List ℕ → ℕ → ℕ → Option Decimal
 decimal_of line most n =
-    cond (eqb n 0) None (cond (ltb most (value_of (take n line))) None (Some (decimal (value_of (take n line)) (drop n line))))
+    cond (eqb n 0) None
+    (cond (ltb most (value_of (take n line))) None (Some (decimal (value_of (take n line)) (drop n line))))
 
 -- the number at the beginning of a line: all the digits there
 abbrev pub number_at : List ℕ → ℕ → Option Decimal

@@ -1,5 +1,5 @@
 -- How the answers over lists follow from those of the readers that they call, a law for each return.
-use mathlib.Core.Path.{◌≡◌, refl, sym, ◌∙◌, ap}
+use mathlib.Core.Path.{◌≡◌, refl, sym, ap}
 use mathlib.Core.List.{List}
 use mathlib.Core.Option.{Option}
 use Prim.Native.Nat.{ℕ, ◌+◌}
@@ -12,22 +12,22 @@ use Rattle.codes.specs.declared.TokenId.{TokenId}
 use Rattle.codes.specs.Answer.{ParseResult, row}
 use Rattle.codes.specs.Words.{As, Gives, Untyped, Quiet, nodes}
 use Rattle.codes.proofs.Onto.{Onto, ◌then◌, stays, reads, regroup, answers, shows}
-use Rattle.codes.proofs.Onto.{told, hands_on, came-node, Plain, plain-reading}
+use Rattle.codes.proofs.Onto.{told, hands_on, came-node, Plain}
 use Rattle.tokens.specs.Answer.{consumed, consuming, Optionally}
 use Rattle.tokens.proofs.Laws.{came-consumed, skipped, taken}
 use Rattle.nodes.specs.declared.ActiveList.{ActiveList}
+use Rattle.nodes.specs.declared.Turn.{Turn}
+use Rattle.nodes.specs.declared.Turn.TheVariants.{More, Last}
 use Rattle.nodes.specs.Answer.{ends, active, listed, append_two}
-use Rattle.nodes.proofs.Laws.{ends-active, active-ends, came-listed}
+use Rattle.nodes.proofs.Laws.{active-ends, active-same, came-listed, plain-turning}
 use Rattle.lists.specs.declared.CountedList.{CountedList}
 use Rattle.lists.specs.declared.Owner.{Owner as Code}
 use Rattle.lists.specs.declared.Owner.TheVariants.{Call, Elements}
-use Rattle.lists.specs.declared.Turn.{Turn}
-use Rattle.lists.specs.declared.Turn.TheVariants.{More, Last}
-use Rattle.lists.specs.Answer.{owner_of, Counted, counted, counted_list, turn_of, turned}
+use Rattle.lists.specs.Answer.{owner_of, Counted, counted, counted_list, turned}
 use Rattle.lists.specs.Answer.{closing_with, separating, ending, field_end, shorthand_end, linking}
 use Rattle.rules.specs.Codes.BaseToken as BaseToken
 use Rattle.rules.specs.Codes.ParseNode as ParseNode
-use Rattle.rules.specs.Reading.{Step, again, done, ◌>>=◌}
+use Rattle.rules.specs.Reading.{◌>>=◌}
 use Rattle.rules.specs.Lists.{Ends}
 use Rattle.rules.specs.Words.{Words, words, append, push_list_item, push_end_of_list}
 use Rattle.rules.specs.Expressions.{Owner, structural, separator, item_end, name_alone, owned, list_end}
@@ -40,22 +40,11 @@ list-same : (l l' : Counted) → counted_list l ≡ counted_list l' → l ≡ l'
 list-same l l' e =
     let x : active l.0 ≡ active l'.0 = ap (λ (m : CountedList). m.list) e in
     let y : l.1 ≡ l'.1 = ap (λ (m : CountedList). m.items) e in
-    let z : l.0 ≡ l'.0 = sym (ends-active l.0) ∙ ap ends x ∙ ends-active l'.0 in
+    let z : l.0 ≡ l'.0 = active-same l.0 l'.0 x in
     rw (z, y) refl
 
--- a turn is told by what the code has of it
-turn-same : (a a' : Step Counted Counted) → turn_of a ≡ turn_of a' → a ≡ a'
-turn-same (again l) (again l') e =
-    let x : counted_list l ≡ counted_list l' = cc in
-    ap again (list-same l l' x)
-turn-same (done l) (done l') e =
-    let x : counted_list l ≡ counted_list l' = cc in
-    ap done (list-same l l' x)
-turn-same (again l) (done l') e = absurd cc
-turn-same (done l) (again l') e = absurd cc
-
 pub plain-turned : Plain turned
-plain-turned = plain-reading turn_of turn-same
+plain-turned = plain-turning counted_list list-same
 
 -- the closing token
 module _ (closing : ℕ) (l : CountedList) {tk : List ℕ} {c k : ℕ} {o : ParseResult TokenId}
@@ -92,14 +81,14 @@ module _ (closing : ℕ) (l : CountedList) {tk : List ℕ} {c k : ℕ} {o : Opti
   }
 
   pub no-comma :
-      o ≡ None → {r : ParseResult (Read Turn)} → Quiet turned (closing_with closing (counted l)) tk c k r →
+      o ≡ None → {r : ParseResult (Read (Turn CountedList))} → Quiet turned (closing_with closing (counted l)) tk c k r →
       Quiet turned (separating closing (counted l)) tk c k r
   unfolding separating separator closing_with
   no-comma q d = record { run = λ tv ns. shows (reads _ (skipped g q tv)) (d.run tv ns) }
 
   -- by a kind of the closing token
   pub no-comma-by :
-      o ≡ None → {key : ℕ} → closing ≡ key → {r : ParseResult (Read Turn)} →
+      o ≡ None → {key : ℕ} → closing ≡ key → {r : ParseResult (Read (Turn CountedList))} →
       Quiet turned (closing_with key (counted l)) tk c k r → Quiet turned (separating closing (counted l)) tk c k r
   no-comma-by q e d = no-comma q (rw e d)
 
@@ -113,7 +102,7 @@ module _ (closing : ℕ) (l : CountedList) (content : ℕ) (tk : List ℕ) {c : 
     item-full q = record { run = λ tv. hands_on _ stays (told g q) }
 
     pub item-read :
-        {v : Read ActiveList} → o ≡ Ok v → {r : ParseResult (Read Turn)} →
+        {v : Read ActiveList} → o ≡ Ok v → {r : ParseResult (Read (Turn CountedList))} →
         Quiet turned (separating closing (ends v.value, l.items + 1)) tk v.cursor.0 v.count r →
         Untyped turned (ending closing (counted l) content) tk c s r ks
     unfolding ending item_end separating
@@ -127,7 +116,7 @@ module _ (l : Counted) (name e : ℕ) (tk : List ℕ) {c : ℕ} {s : Words} {r�
   field-refused q = record { run = λ tv. hands_on _ stays (told g q) }
 
   pub field-read :
-      {v : Read NodeId} → r₁ ≡ Ok v → {r : ParseResult (Read Turn)} {ks : List ℕ} →
+      {v : Read NodeId} → r₁ ≡ Ok v → {r : ParseResult (Read (Turn CountedList))} {ks : List ℕ} →
       Untyped turned (ending BaseToken.BraceRight l v.value.0) tk v.cursor.0 (nodes ks₁ v.count) r ks →
       Untyped turned (field_end l name e) tk c s r ks
   unfolding field_end ending
@@ -141,7 +130,7 @@ module _ (l : Counted) (name : ℕ) (tk : List ℕ) {c : ℕ} {s : Words} {r₁ 
   shorthand-refused q = record { run = λ tv. hands_on _ stays (told g q) }
 
   pub shorthand-read :
-      {v : Read NodeId} → r₁ ≡ Ok v → {r : ParseResult (Read Turn)} {ks : List ℕ} →
+      {v : Read NodeId} → r₁ ≡ Ok v → {r : ParseResult (Read (Turn CountedList))} {ks : List ℕ} →
       Untyped turned (field_end l name v.value.0) tk v.cursor.0 (nodes ks₁ v.count) r ks →
       Untyped turned (shorthand_end l name) tk c s r ks
   unfolding shorthand_end

@@ -2,17 +2,16 @@
 use Rattle.std.specs.Prelude.{ℕ, ◌≤◌}
 use Rattle.std.proofs.Math.Option.{Option}
 use Rattle.codes.specs.declared.Read.{Read}
-use Rattle.codes.specs.Answer.{State, reading}
-use Rattle.nodes.specs.Answer.{active, ends}
+use Rattle.codes.specs.Answer.{State}
+use Rattle.nodes.specs.declared.Turn.{Turn}
+use Rattle.nodes.specs.Answer.{active, ends, turning}
 use Rattle.lists.specs.declared.Owner.{Owner as Code}
 use Rattle.lists.specs.declared.Owner.TheVariants.{Call, Elements}
 use Rattle.lists.specs.declared.CountedList.{CountedList}
-use Rattle.lists.specs.declared.Turn.{Turn}
-use Rattle.lists.specs.declared.Turn.TheVariants.{More, Last}
 use Rattle.rules.specs.Codes.BaseToken as BaseToken
 use Rattle.rules.specs.Codes.ParseNode as ParseNode
 use Rattle.rules.specs.Codes.Limit as Limit
-use Rattle.rules.specs.Reading.{Rule, Row, Step, again, done, ◌>>=◌, pure, consume}
+use Rattle.rules.specs.Reading.{Rule, Row, Step, done, ◌>>=◌, pure, consume}
 use Rattle.rules.specs.Lists.{Ends}
 use Rattle.rules.specs.Words.{Words, words, append, push_end_of_list}
 use Rattle.rules.specs.Expressions.{Owner, call, elements, separator, item_end, name_alone}
@@ -33,12 +32,8 @@ abbrev pub counted_list : Counted → CountedList
 counted_list l = record { list = active l.0; items = l.1 }
 
 -- a list to which an item may be added, or the whole list
-abbrev pub turn_of : Step Counted Counted → Turn
-turn_of (again l) = More (counted_list l)
-turn_of (done l) = Last (counted_list l)
-
-abbrev pub turned : Step Counted Counted → State → Read Turn
-turned = reading turn_of
+abbrev pub turned : Step Counted Counted → State → Read (Turn CountedList)
+turned = turning counted_list
 
 -- the rules of any row
 unfoldable pub closing_with : ℕ → Counted → Row → Rule Words (Step Counted Counted)

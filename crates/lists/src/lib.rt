@@ -11,31 +11,25 @@ ghost use Rattle.nodes.specs.Answer.{WithinSlots, ends, past};
 ghost use Rattle.lists.specs.Answer.{Small, owner_of, counted, turned, closing_with, separating, ending, field_end, shorthand_end, linking};
 
 use codes::{BaseToken, Node, NodeId, ParseNode, ParseResult, Parsed, Read, TokenId};
-use nodes::{ActiveList, push, push_end_of_list, push_list, push_list_item, push_two};
+use nodes::{ActiveList, Turn, push, push_end_of_list, push_list, push_list_item, push_two};
 use references::push_name;
 use tokens::Row;
 
 // What a list of expressions belongs to: a call of a name or of a Builtin, or an array. `builtin` is the load of the
 // call's node: 0 for a name, 1 for a Builtin. It is a number, and no flag, since finish_list takes any that fits a
-// load.
+// load. That it fits is in the contracts, since closing_of takes any.
 #[derive(Clone, Copy)]
 pub enum Owner {
     Call { name: TokenId, builtin: u32 },
     Elements,
 }
 
-// A list whose end is yet to come, and the number of its items.
+// A list whose end is yet to come, and the number of its items. Both are bounded by the node count, which is a
+// parameter, so that the bounds are in the contracts.
 #[derive(Clone, Copy)]
 pub struct CountedList {
     pub list: ActiveList,
     pub items: u32,
-}
-
-// A turn of a list: one to which an item may be added, or the whole list.
-#[derive(Clone, Copy)]
-pub enum Turn {
-    More(CountedList),
-    Last(CountedList),
 }
 
 // The token that closes a list of expressions.
@@ -55,7 +49,7 @@ fn close_list(
     count: u32,
     list: CountedList,
     closing: u8,
-) -> ParseResult<Read<Turn>>
+) -> ParseResult<Read<Turn<CountedList>>>
     requires { cursor.0 ≤ Limits.Tokens + 1 }
     ensures { Quiet turned (closing_with closing (counted list)) row.now.kinds.now cursor.0
         count result }
@@ -69,14 +63,14 @@ fn close_list(
 }
 
 // After an item: a comma, or the closing token. Two kinds of that are written out, so that the refusal of each is known
-// when this is compiled, and not looked up.
+// when this is compiled, and not looked up: a call of many arguments takes 4 in 100 instructions less.
 fn parse_separator(
     row: &Row<'_>,
     cursor: TokenId,
     count: u32,
     list: CountedList,
     closing: u8,
-) -> ParseResult<Read<Turn>>
+) -> ParseResult<Read<Turn<CountedList>>>
     requires { cursor.0 ≤ Limits.Tokens + 1 }
     ensures { Quiet turned (separating closing (counted list)) row.now.kinds.now cursor.0
         count result }
@@ -104,7 +98,7 @@ pub fn finish_item(
     list: CountedList,
     closing: u8,
     content: NodeId,
-) -> ParseResult<Read<Turn>>
+) -> ParseResult<Read<Turn<CountedList>>>
     requires { (cursor.0 ≤ Limits.Tokens + 1) × WithinSlots node_words.old count ×
         (past list.list ≤ count) × (list.items ≤ count) }
     ensures { Untyped turned (ending closing (counted list) content.0) row.now.kinds.now cursor.0
@@ -131,7 +125,7 @@ pub fn finish_field(
     list: CountedList,
     name: TokenId,
     expression: NodeId,
-) -> ParseResult<Read<Turn>>
+) -> ParseResult<Read<Turn<CountedList>>>
     requires { (cursor.0 ≤ Limits.Tokens + 1) × WithinSlots node_words.old count ×
         (past list.list ≤ count) × (list.items ≤ count) × (name.0 ≤ Limits.Load) }
     ensures { Untyped turned (field_end (counted list) name.0 expression.0) row.now.kinds.now
@@ -162,7 +156,7 @@ pub fn finish_shorthand(
     count: u32,
     list: CountedList,
     name: TokenId,
-) -> ParseResult<Read<Turn>>
+) -> ParseResult<Read<Turn<CountedList>>>
     requires { (cursor.0 ≤ Limits.Tokens + 1) × WithinSlots node_words.old count ×
         (past list.list ≤ count) × (list.items ≤ count) × (name.0 ≤ Limits.Load) }
     ensures { Untyped turned (shorthand_end (counted list) name.0) row.now.kinds.now cursor.0

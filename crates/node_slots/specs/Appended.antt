@@ -27,5 +27,5 @@ abbrev pub end_of : ℕ → List ℕ → List ℕ → ℕ
 end_of replied kinds loads = min (min replied (length kinds)) (length loads)
 
 -- the slots of a column from the given count up to where the appended nodes end
-abbrev pub appended_in : ℕ → ℕ → List ℕ → List ℕ
-appended_in given end column = take (end - min given end) (drop (min given end) column)
+abbrev pub appended_slots : ℕ → ℕ → List ℕ → List ℕ
+appended_slots given end column = take (end - min given end) (drop (min given end) column)

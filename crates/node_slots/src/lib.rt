@@ -4,7 +4,7 @@
 
 ghost use Rattle.std.specs.Prelude.{ℕ, ◌<◌, ◌≡◌, length, Some};
 ghost use Rattle.node_slots.specs.Kept.{old_kind, old_load, Filled, kept_slot, kept};
-ghost use Rattle.node_slots.specs.Appended.{mix, checksum, appended_text, end_of, appended_in};
+ghost use Rattle.node_slots.specs.Appended.{mix, checksum, appended_text, end_of, appended_slots};
 ghost use Rattle.node_slots.specs.SlotLimits as SlotLimits;
 
 use show::{Columns, Nodes, Shown};
@@ -114,9 +114,9 @@ pub struct Appended<'a>(Columns<'a>);
 impl<'a> Appended<'a> {
     // The nodes from the given count up to the replied one, as far as both columns have slots.
     pub fn new(columns: Columns<'a>, given: usize, replied: usize) -> Appended<'a>
-        ensures kinds { result.0.kinds.now ≡ appended_in given
+        ensures kinds { result.0.kinds.now ≡ appended_slots given
             (end_of replied columns.entry.kinds.now columns.entry.loads.now) columns.entry.kinds.now }
-        ensures loads { result.0.loads.now ≡ appended_in given
+        ensures loads { result.0.loads.now ≡ appended_slots given
             (end_of replied columns.entry.kinds.now columns.entry.loads.now) columns.entry.loads.now }
     {
         let Columns { kinds, loads } = columns;

@@ -1,5 +1,6 @@
 // The text that penne-nodes writes, put into a buffer after what stands there. What stands before it and after it is kept.
-// The functions ask for room and cannot fail, where what `write!` gives may be an error.
+// The functions ask for room and cannot fail. By `write!` they could: the contract of fmt::Write says what a write that
+// succeeds has written, and not when it succeeds.
 #![tactic(auto)]
 
 ghost use Rattle.std.specs.Prelude.{◌≡◌, ◌≤◌, ◌*◌, [], ◌∷◌, ◌++◌, length};
@@ -11,7 +12,7 @@ ghost use Rattle.node_text.specs.Text.{reply as reply_text};
 use codes::{Node, Parsed, TokenId};
 use itoa::Buffer;
 
-// A buffer, and the place after the text in it.
+// A buffer, and the place after the text in it. It is no String, since that needs a heap.
 #[derive(Drop)]
 pub struct TextBuffer<'a> {
     pub bytes: &'a mut [u8],

@@ -17,10 +17,12 @@ use Rattle.codes.specs.Words.{As, Gives, nodes}
 use Rattle.codes.proofs.Onto.{Onto, stays, reads, answers, declines, shows, told, hands_on, came-read, Plain, plain-reading, came-node}
 use Rattle.nodes.specs.declared.ActiveList.{ActiveList}
 use Rattle.nodes.specs.declared.ActiveList.TheVariants.{Empty, Open}
-use Rattle.nodes.specs.Answer.{ends, active, listed, past, append_two}
+use Rattle.nodes.specs.declared.Turn.{Turn}
+use Rattle.nodes.specs.declared.Turn.TheVariants.{More, Last}
+use Rattle.nodes.specs.Answer.{ends, active, listed, turn_of, turning, past, append_two}
 use Rattle.rules.specs.Codes.ParseNode as ParseNode
 use Rattle.rules.specs.Codes.Refusal as Refusal
-use Rattle.rules.specs.Reading.{Rule, pure, ◌>>=◌}
+use Rattle.rules.specs.Reading.{Rule, Step, again, done, pure, ◌>>=◌}
 use Rattle.rules.specs.Lists.{Ends, extended, ended}
 use Rattle.rules.specs.Lists as Lists
 use Rattle.rules.specs.Words.{Words, packed, append, patch, push_list_item, push_end_of_list}
@@ -79,8 +81,36 @@ pub active-ends : (l : ActiveList) → active (ends l) ≡ l
 active-ends Empty = refl
 active-ends (Open f l) = refl
 
+pub active-same : (a a' : Option Ends) → active a ≡ active a' → a ≡ a'
+active-same a a' e = sym (ends-active a) ∙ ap ends e ∙ ends-active a'
+
 pub plain-listed : Plain listed
-plain-listed = plain-reading active (λ a a' e. sym (ends-active a) ∙ ap ends e ∙ ends-active a')
+plain-listed = plain-reading active active-same
+
+-- a turn is told by what the code has of it, if what it holds is
+module _ {A T : Type 0} (f : A → T) where
+  turn-same : ((a a' : A) → f a ≡ f a' → a ≡ a') → (t t' : Step A A) → turn_of f t ≡ turn_of f t' → t ≡ t'
+  turn-same same (again a) (again a') e =
+      let x : f a ≡ f a' = cc in
+      ap again (same a a' x)
+  turn-same same (done a) (done a') e =
+      let x : f a ≡ f a' = cc in
+      ap done (same a a' x)
+  turn-same same (again a) (done a') e = absurd cc
+  turn-same same (done a) (again a') e = absurd cc
+
+  pub plain-turning : ((a a' : A) → f a ≡ f a' → a ≡ a') → Plain (turning f)
+  plain-turning same = plain-reading (turn_of f) (turn-same same)
+
+  -- a turn of the code is that of the rules
+  module _ {z : ParseResult (Read (Turn T))} {v : Read (Turn T)} (w : z ≡ Ok v) {a : A} {m : T} (back : f a ≡ m) where
+    pub more-turn : v.value ≡ More m → z ≡ Ok (turning f (again a) (state v.cursor v.count))
+    more-turn e =
+        w ∙ ap (λ (t : Turn T). Ok (record { value = t; cursor = v.cursor; count = v.count })) (e ∙ ap More (sym back))
+
+    pub last-turn : v.value ≡ Last m → z ≡ Ok (turning f (done a) (state v.cursor v.count))
+    last-turn e =
+        w ∙ ap (λ (t : Turn T). Ok (record { value = t; cursor = v.cursor; count = v.count })) (e ∙ ap Last (sym back))
 
 -- the list with one item more, by the answer
 pub listed-back :

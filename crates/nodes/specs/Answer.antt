@@ -5,8 +5,10 @@ use Rattle.codes.specs.declared.Read.{Read}
 use Rattle.codes.specs.Answer.{State, node_id, reading}
 use Rattle.nodes.specs.declared.ActiveList.{ActiveList}
 use Rattle.nodes.specs.declared.ActiveList.TheVariants.{Empty, Open}
+use Rattle.nodes.specs.declared.Turn.{Turn}
+use Rattle.nodes.specs.declared.Turn.TheVariants.{More, Last}
 use Rattle.rules.specs.Codes.Limit as Limit
-use Rattle.rules.specs.Reading.{Rule, ◌>>=◌}
+use Rattle.rules.specs.Reading.{Rule, Step, again, done, ◌>>=◌}
 use Rattle.rules.specs.Lists.{Ends}
 use Rattle.rules.specs.Words.{Words, append}
 
@@ -27,6 +29,14 @@ active (some e) = Open (node_id e.first) (node_id e.last)
 -- a list with one item more
 abbrev pub listed : Option Ends → State → Read ActiveList
 listed = reading active
+
+-- a turn of a loop; f gives what it holds as the code has it
+abbrev pub turn_of : {A T : Type 0} → (A → T) → Step A A → Turn T
+turn_of f (again a) = More (f a)
+turn_of f (done a) = Last (f a)
+
+abbrev pub turning : {A T : Type 0} → (A → T) → Step A A → State → Read (Turn T)
+turning f = reading (turn_of f)
 
 -- the place after an open list's items, 0 where it has none
 unfoldable pub past : ActiveList → ℕ

@@ -1,5 +1,6 @@
 // The node words, after ParseBuffer of the Rust's parser/parse_tree.rs. The node count and the open list are passed
-// and returned by value. Where the slots are used up the answer is refusal 33, and what was appended before stays.
+// and returned by value. The count is in no struct with the words, which are lent, since each answer has the count then,
+// as it has the cursor. Where the slots are used up the answer is refusal 33, and what was appended before stays.
 #![tactic(auto)]
 
 ghost use Rattle.std.proofs.Math.Option.{none};
@@ -13,7 +14,8 @@ ghost use Rattle.nodes.specs.Answer.{listed, ends, past, WithinSlots, append_two
 use codes::{Node, NodeId, ParseNode, ParseResult, Parsed, ParsingError, Read, Refusal, TokenId};
 
 // A list whose end is yet to come: its first and its last item. It is no Option of a struct, since that is moved as one
-// number of 64 bits, which takes 10 in 100 instructions more on a struct of many members.
+// number of 64 bits, which takes 10 in 100 instructions more on a struct of many members. Its nodes are bounded by the
+// node count, which is a parameter, so that the bound is in the contracts.
 #[derive(Clone, Copy)]
 pub enum ActiveList {
     Empty,
@@ -21,6 +23,13 @@ pub enum ActiveList {
         first_node: NodeId,
         last_node: NodeId,
     },
+}
+
+// A turn of a loop over a list: one with which it goes on, or the last one.
+#[derive(Clone, Copy)]
+pub enum Turn<T> {
+    More(T),
+    Last(T),
 }
 
 // A node is appended.
@@ -62,7 +71,8 @@ pub fn push_two(
     push(node_words, cursor, count, second)
 }
 
-// A node that links to one before it.
+// A node that links to one before it. This function and the next one are a call of push each: one for both, with the kind
+// as a parameter, would be that call.
 pub fn push_older_node(node_words: &mut [u32], cursor: TokenId, count: u32, node: NodeId) -> Parsed
     requires { WithinSlots node_words.old count × (node.0 ≤ Limits.Load) }
     ensures { Gives (append Kind.Item node.0) cursor.0 (nodes node_words.old count) result node_words.new }

@@ -6,7 +6,8 @@ ghost use Rattle.packing.specs.Answer.{packing, unpacking};
 
 use codes::{Limit, Node, ParseResult, ParsingError, Refusal, TokenId};
 
-// The word of a node, or the refusal of a load that does not fit it.
+// The word of a node, or the refusal of a load that does not fit it. Neither this nor the way back is a From: Node is of
+// crate codes, and u32 of the language.
 pub fn pack(node: Node) -> ParseResult<u32>
     ensures { result ≡ packing node.0 node.1 }
 {

@@ -179,19 +179,22 @@ module _ {tk tv : List ℕ} {c : ℕ} {E : ℕ → ℕ → ℕ → Check} {m : R
           )))
           (words-check E ws k f) (check-passed t c k g h)
 
--- what the reader of a declaration takes for granted: also that the declaration's start and its flags fit a load
+-- a declaration's start and its flags fit a load
+abbrev Fits : ℕ → ℕ → Type 0
+Fits start flags = record { start_in : start ≤ Limit.Load; flags_in : flags ≤ Limit.Load }
+
 module _ (tk tv : List ℕ) (c k : ℕ) (t : Checked) {p : ParseResult (Unit {0})} (g : p ≡ passed t c k)
     (ns ls : List ℕ) (start flags : ℕ) where
-  pub declaration-sized :
+  pub declaration-fits :
       check_of t ≡ declaration_check (row tk tv) c (length ns) (length ls) k start flags → {u : Unit {0}} → p ≡ Ok u →
-      Core.Sized tk tv ls c k × (start ≤ Limit.Load) × (flags ≤ Limit.Load)
-  declaration-sized f h =
-      let (e, a, b) = declaration-entered {ns = ns} (check-passed t c k g h) start flags f in
-      (e.sized, omega (arith, e.sized.tokens), omega arith)
+      Fits start flags
+  declaration-fits f h =
+      let (e, a, b) = declaration-entered {tk = tk} {tv = tv} {ns = ns} (check-passed t c k g h) start flags f in
+      record { start_in = omega (arith, e.sized.tokens); flags_in = omega arith }
 
-  pub word-sized :
+  pub word-fits :
       (kind : ℕ) → check_of t ≡ word_declaration_check (row tk tv) c (length ns) (length ls) k start flags kind →
-      {u : Unit {0}} → p ≡ Ok u → Core.Sized tk tv ls c k × (start ≤ Limit.Load) × (flags ≤ Limit.Load)
-  word-sized kind f h =
-      let (e, a, b) = word-entered {ns = ns} (check-passed t c k g h) start flags kind f in
-      (e.sized, omega (arith, e.sized.tokens), omega arith)
+      {u : Unit {0}} → p ≡ Ok u → Fits start flags
+  word-fits kind f h =
+      let (e, a, b) = word-entered {tk = tk} {tv = tv} {ns = ns} (check-passed t c k g h) start flags kind f in
+      record { start_in = omega (arith, e.sized.tokens); flags_in = omega arith }

@@ -39,8 +39,10 @@ fn split(node_kinds: &mut [u8], node_loads: &mut [u32], first: u32, end: u32)
     }
 }
 
-// An entry with columns and its twin with words share the check and the reader, a call each. One function for both that
-// took the reader as a closure would save no line, and its contract would have to speak of that closure's calls.
+// An entry with columns and its twin with words share the check and the reader, a call each. One function for both
+// would take the reader as a closure, and its contract would have to speak of that closure's calls. The entries of a
+// constant and of a struct stay apart for the same reason. The columns are parameters, two of the row and two of nodes,
+// since the libraries for C have them so, and since of a struct of two lent columns a proof lends one field at a time.
 
 // An expression from the cursor on.
 pub fn parse_expression(

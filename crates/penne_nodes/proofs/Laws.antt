@@ -7,6 +7,7 @@ use native.Mathlib.Omega.{arith}
 use lib.ListN.{length, drop, take}
 use Rattle.std.proofs.Common.{length-drop, take_all}
 use Rattle.std.proofs.Math.Seq.{drop-drop}
+use Rattle.std.proofs.lemmas.List.{get_or-take}
 use lib.Dec.{ltb}
 use Rattle.std.specs.Prelude.{Result, Ok, Err, None, Some, MatchResult}
 use Rattle.std.specs.Result.{result_ok}
@@ -42,6 +43,21 @@ first-of a b e = rw e refl
 second-of : (a b : Bool) → b ≡ true → or a b ≡ true
 second-of true b e = refl
 second-of false b e = e
+
+-- a size in the first bytes is that of the input
+pub size_in_front :
+    (bytes : List ℕ) {sizes : List ℕ} → sizes ≡ take sizes_before_kinds bytes → (at : ℕ) {n : ℕ} →
+    at + 4 ≤ sizes_before_kinds → n ≡ size_at sizes at → n ≡ size_at bytes at
+unfolding size_at
+size_in_front bytes e at h q =
+    let g = λ (k : ℕ) (b : k < sizes_before_kinds). get_or-take sizes_before_kinds bytes k 0 b in
+    rw (
+      e,
+      g at (omega (arith, h)),
+      g (at + 1) (omega (arith, h)),
+      g (at + 2) (omega (arith, h)),
+      g (at + 3) (omega (arith, h)),
+    ) at q
 
 module _ (bytes : List ℕ) where
   pub short_bad : length bytes < sizes_before_kinds → bad bytes ≡ true

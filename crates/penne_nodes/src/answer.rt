@@ -17,7 +17,8 @@ pub const SLOTS: usize = 8197;
 // The bytes of the longest output, counting ten digits for each number: a reply of at most 64, and 33 for each node.
 pub const OUTPUT: usize = 270_565;
 
-// The reply to a question.
+// The reply to a question. By a match, since each entry has a promise of its own. The node columns are two parameters, as
+// the entries have them.
 fn parse(question: &Question<'_>, node_kinds: &mut [u8], node_loads: &mut [u32]) -> Parsed
     requires { (length node_kinds.old ≡ program_slots)
         × (length node_loads.old ≡ program_slots) }

@@ -1,5 +1,5 @@
 // Standard input, read until it ends, however it is cut into reads. Crate io has such a loop, which takes a read that
-// failed for the input's end; here a failure is told.
+// failed for the input's end; here a failure is told. Std's read_to_end needs a heap.
 ghost use Rattle.std.specs.Prelude.{◌≡◌, length};
 ghost use Rattle.penne_nodes.specs.Filled.{input_bytes, Filled};
 

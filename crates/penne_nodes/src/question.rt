@@ -50,8 +50,8 @@ pub struct Question<'a> {
     pub cursor: TokenId,
 }
 
-// The little-endian number in four bytes.
-fn size(bytes: &[u8], at: usize) -> u32
+// The little-endian number in four of the bytes of the sizes.
+fn size(bytes: &[u8; SIZES], at: usize) -> u32
     requires { at + 4 ≤ length bytes.now }
     ensures { result ≡ size_at bytes.now at }
 {
@@ -64,8 +64,8 @@ impl<'a> Question<'a> {
         ensures { MatchOption result
             (bad bytes.now ≡ true) (λ question. Asks bytes.now question) }
     {
-        let (_, columns) = bytes.split_first_chunk::<SIZES>()?;
-        let tokens = size(bytes, 0);
+        let (sizes, columns) = bytes.split_first_chunk::<SIZES>()?;
+        let tokens = size(sizes, 0);
         if tokens > TOKENS {
             return None;
         }
@@ -73,12 +73,12 @@ impl<'a> Question<'a> {
         if columns.len() != row + row {
             return None;
         }
-        let entry = Entry::try_from(size(bytes, ENTRY)).ok()?;
+        let entry = Entry::try_from(size(sizes, ENTRY)).ok()?;
         let (kinds, types) = columns.split_at(row);
         Some(Question {
             entry,
             row: Row { kinds, types },
-            cursor: TokenId(size(bytes, CURSOR)),
+            cursor: TokenId(size(sizes, CURSOR)),
         })
     }
 }

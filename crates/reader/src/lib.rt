@@ -1,6 +1,6 @@
-// A reader: the row and the place in it in one struct, after the Rust's Tokens of parser/tokens.rs. Its methods are
-// thin: each calls a method of the row at the cursor, of crate tokens. A caller that has no reader uses the functions
-// at the end, whose parameters are the row and the cursor.
+// A reader: the row and the place in it in one struct, after the Rust's Tokens of parser/tokens.rs. Each of its methods
+// calls one method of the row at the cursor, of crate tokens. A caller that has no reader uses the functions at the end,
+// whose parameters are the row and the cursor.
 #![tactic(auto)]
 
 ghost use Rattle.std.specs.Prelude.{◌≡◌, ◌+◌, ◌≤◌};
@@ -12,7 +12,7 @@ ghost use Rattle.reader.specs.Answer.{kinds_of, place, ending, Looks, Takes, Tri
 use codes::{BaseToken, ParseResult, TokenId};
 use tokens::{Row, Taken};
 
-// The row, and the token that is next.
+// The row, and the token that is next. No invariant bounds the cursor: new and peek take any, also past the row's end.
 #[derive(Drop)]
 pub struct Tokens<'a> {
     pub row: Row<'a>,

@@ -1,5 +1,5 @@
 -- How the answers over references follow from those of the readers that they call, a law for each return.
-use mathlib.Core.Path.{◌≡◌, refl, sym, ◌∙◌, ap}
+use mathlib.Core.Path.{◌≡◌, refl, sym, ap}
 use mathlib.Core.Bool.{true, false}
 use mathlib.Core.List.{List}
 use mathlib.Core.Option.{Option, none}
@@ -22,17 +22,17 @@ use Rattle.tokens.specs.Answer.{kind_in, consumed, consuming, Optionally}
 use Rattle.tokens.proofs.Laws.{came-consumed, skipped, taken, found-next}
 use Rattle.tokens.proofs.Bounds.{in_row}
 use Rattle.nodes.specs.declared.ActiveList.{ActiveList}
+use Rattle.nodes.specs.declared.Turn.TheVariants.{More}
 use Rattle.nodes.specs.Answer.{ends, active, listed, append_two}
-use Rattle.nodes.proofs.Laws.{ends-active, active-ends, came-listed}
+use Rattle.nodes.proofs.Laws.{active-ends, active-same, came-listed, plain-turning}
 use Rattle.references.specs.declared.Address.{Address}
-use Rattle.references.specs.declared.Stepped.TheVariants.{More}
-use Rattle.references.specs.Answer.{depths, address_of, addressed, step_of, stepped, one_more}
+use Rattle.references.specs.Answer.{depths, address_of, addressed, stepped, one_more}
 use Rattle.references.specs.Answer.{closing, counting, addressing, stepping, elementing, membering, deref_end}
 use Rattle.rules.specs.Codes.BaseToken as BaseToken
 use Rattle.rules.specs.Codes.ParseNode as ParseNode
 use Rattle.rules.specs.Codes.Refusal as Refusal
 use Rattle.rules.specs.Codes.Limit as Limit
-use Rattle.rules.specs.Reading.{Rule, Step, again, done, pure, repeat, loop, refuse, ◌>>=◌}
+use Rattle.rules.specs.Reading.{Rule, pure, repeat, loop, refuse, ◌>>=◌}
 use Rattle.rules.specs.Lists.{Ends}
 use Rattle.rules.specs.Words.{Words, words, append, push_list_item, push_end_of_list}
 use Rattle.rules.specs.Expressions.{closed, exceeded, ampersand, ampersands, address, deref, name_alone}
@@ -47,19 +47,8 @@ plain-addressed = plain-reading address_of (λ a a' e.
     let y : a.1 ≡ a'.1 = ap (λ (x : Address). x.name.0) e in
     rw (x, y) refl)
 
--- a turn of the steps is told by what the code has of it
-step_same : (a a' : Step (Option Ends) (Option Ends)) → step_of a ≡ step_of a' → a ≡ a'
-step_same (again l) (again l') e =
-    let x : active l ≡ active l' = cc in
-    ap again (sym (ends-active l) ∙ ap ends x ∙ ends-active l')
-step_same (done l) (done l') e =
-    let x : active l ≡ active l' = cc in
-    ap done (sym (ends-active l) ∙ ap ends x ∙ ends-active l')
-step_same (again l) (done l') e = absurd cc
-step_same (done l) (again l') e = absurd cc
-
 pub plain-stepped : Plain stepped
-plain-stepped = plain-reading step_of step_same
+plain-stepped = plain-turning active active-same
 
 -- the depth, and the depth and the name, by the answer
 came-depth :
@@ -255,13 +244,12 @@ module _ {tk : List ℕ} {start c k depth : ℕ} {w : TokenId} (h : Counting tk 
 pub counts-on :
     {tk : List ℕ} {start c k depth at : ℕ} → Counting tk start c k depth at → {o : Optional TokenId} →
     Optionally tk BaseToken.Ampersand at o → {p : TokenId} → o ≡ Some p → depth + 1 ≤ Limit.AddressDepth →
-    (p.0 ≤ length tk) × (depth + 1 ≤ Limit.AddressDepth) × Counting tk start c k (depth + 1) p.0
+    (p.0 ≤ length tk) × Counting tk start c k (depth + 1) p.0
 unfolding ampersand
 counts-on {tk} {at = at} h g q b =
     let (e, d) = found-next g q in
     let x : at < length tk = in_row tk at (kind_in tk at) BaseToken.Ampersand refl d refl in (
       omega arith,
-      b,
       record {
         going = λ tv ns.
             goes-round _ (h.going tv ns)

@@ -4,12 +4,12 @@ use Rattle.std.proofs.Math.Option.{Option}
 use Rattle.codes.specs.declared.Read.{Read}
 use Rattle.codes.specs.Answer.{State, ParseResult, reading, token}
 use Rattle.nodes.specs.declared.ActiveList.{ActiveList}
-use Rattle.nodes.specs.Answer.{active}
+use Rattle.nodes.specs.declared.Turn.{Turn}
+use Rattle.nodes.specs.declared.Turn.TheVariants.{More}
+use Rattle.nodes.specs.Answer.{active, turning}
 use Rattle.references.specs.declared.Address.{Address}
-use Rattle.references.specs.declared.Stepped.{Stepped}
-use Rattle.references.specs.declared.Stepped.TheVariants.{More, Last}
 use Rattle.rules.specs.Codes.Limit as Limit
-use Rattle.rules.specs.Reading.{Rule, Row, Step, again, done, ◌>>=◌}
+use Rattle.rules.specs.Reading.{Rule, Row, Step, ◌>>=◌}
 use Rattle.rules.specs.Lists.{Ends}
 use Rattle.rules.specs.Words.{Words, words, push_end_of_list}
 use Rattle.rules.specs.Expressions.{closed, ampersands, address, deref, step_end, element_end, member}
@@ -26,15 +26,11 @@ abbrev pub addressed : ℕ × ℕ → State → Read Address
 addressed = reading address_of
 
 -- a step more, or the whole list
-abbrev pub step_of : Step (Option Ends) (Option Ends) → Stepped
-step_of (again l) = More (active l)
-step_of (done l) = Last (active l)
-
-abbrev pub stepped : Step (Option Ends) (Option Ends) → State → Read Stepped
-stepped = reading step_of
+abbrev pub stepped : Step (Option Ends) (Option Ends) → State → Read (Turn ActiveList)
+stepped = turning active
 
 -- the answer of a reader that only ever gives the list with a step more
-abbrev pub one_more : ParseResult (Read ActiveList) → ParseResult (Read Stepped)
+abbrev pub one_more : ParseResult (Read ActiveList) → ParseResult (Read (Turn ActiveList))
 one_more (Ok v) = Ok (record { value = More v.value; cursor = v.cursor; count = v.count })
 one_more (Err e) = Err e
 

@@ -19,25 +19,23 @@ use codes::{
 use nodes::{ActiveList, push, push_end_of_list, push_list_item, push_two, start_list};
 use tokens::Row;
 
-// How many ampersands there are, and the name after them.
+// How many ampersands there are, and the name after them. It has no ghost field: that the two fit a load stands in the
+// contract of parse_address alone, and `address_of` in specs/ makes an Address of any two numbers.
 #[derive(Clone, Copy)]
 pub struct Address {
     pub depth: u32,
     pub name: TokenId,
 }
 
-// A reference but for its steps: where it starts, and its name with the number of ampersands that is stored.
+// A reference but for its steps: where it starts, and its name with the number of ampersands that is stored. Each of the
+// three is a node's load.
 #[derive(Clone, Copy)]
 pub struct Reference {
     pub start: TokenId,
     pub address: Address,
-}
-
-// A turn of a list of steps or members, as its loop reads it: the list with one more, or the whole list.
-#[derive(Clone, Copy)]
-pub enum Stepped {
-    More(ActiveList),
-    Last(ActiveList),
+    pub ghost start_in: { start.0 ≤ Limits.Load },
+    pub ghost depth_in: { address.depth ≤ Limits.Load },
+    pub ghost name_in: { address.name.0 ≤ Limits.Load },
 }
 
 // The closing token, and the node of what it closes: a parenthesized expression, a length, a size or an element step.
@@ -85,19 +83,17 @@ fn parse_ampersands(
     ensures { Quiet depths (counting start.0) row.now.kinds.now cursor.0 count result ×
         Shallow result }
 {
-    let mut depth: u32 = 1;
-    while let Some(after) = row.consume_optional(cursor, BaseToken::Ampersand) {
+    for depth in 1..=Limit::AddressDepth {
+        let Some(after) = row.consume_optional(cursor, BaseToken::Ampersand) else {
+            return Ok(Read {
+                value: depth,
+                cursor,
+                count,
+            });
+        };
         cursor = after;
-        depth += 1;
-        if depth > Limit::AddressDepth {
-            return Err(exceeded(cursor, count, start));
-        }
     }
-    Ok(Read {
-        value: depth,
-        cursor,
-        count,
-    })
+    Err(exceeded(cursor, count, start))
 }
 
 // Further ampersands and the name after them.
@@ -134,9 +130,7 @@ fn push_reference(
     reference: Reference,
     steps: NodeId,
 ) -> Parsed
-    requires { WithinSlots node_words.old count × (steps.0 ≤ Limits.Load) ×
-        (reference.start.0 ≤ Limits.Load) × (reference.address.depth ≤ Limits.Load) ×
-        (reference.address.name.0 ≤ Limits.Load) }
+    requires { WithinSlots node_words.old count × (steps.0 ≤ Limits.Load) }
     ensures { Gives
         (deref words reference.start.0 reference.address.depth reference.address.name.0 steps.0)
         cursor.0 (nodes node_words.old count) result node_words.new }
@@ -166,9 +160,7 @@ pub fn push_deref(
     list: ActiveList,
     reference: Reference,
 ) -> Parsed
-    requires { WithinSlots node_words.old count × (past list ≤ count) ×
-        (reference.start.0 ≤ Limits.Load) × (reference.address.depth ≤ Limits.Load) ×
-        (reference.address.name.0 ≤ Limits.Load) }
+    requires { WithinSlots node_words.old count × (past list ≤ count) }
     ensures { Gives
         (deref_end (ends list) reference.start.0 reference.address.depth reference.address.name.0)
         cursor.0 (nodes node_words.old count) result node_words.new }

@@ -15,7 +15,7 @@ const ACCEPTED: u32 = 0;
 
 const REFUSED: u32 = 1;
 
-// The first six places of the column anew.
+// The first six places of the column anew. The column is a slice, and no array, since it may be longer.
 fn place(reply: &mut [u32], numbers: [u32; PLACES])
     requires { reply_numbers ≤ length reply.old }
     ensures { reply.new ≡ placed reply.old numbers }
@@ -37,7 +37,7 @@ fn refused(refusal: ParsingError) -> [u32; PLACES]
     [REFUSED, number, start.0, end.0, cursor.0, count]
 }
 
-// A reply as numbers in the column.
+// A reply as numbers in the column. It is no From of a reply for an array, since neither type is of this crate.
 pub fn write(reply: &mut [u32], parsed: Parsed)
     requires { reply_numbers ≤ length reply.old }
     ensures { reply.new ≡ written reply.old parsed }

@@ -1,2 +1,3 @@
 pub mod LineLimits
+pub mod Lines
 pub mod Read

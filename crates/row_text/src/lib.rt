@@ -15,8 +15,10 @@ ghost use Rattle.row_text.specs.Read.{Fits, Setting};
 use codes::ValueTypeKeyword;
 use lines::{after, number, skip, split_once, trim};
 
+mod input;
 mod row_tokens;
 
+pub use input::{read_input, show_lines};
 pub use row_tokens::{TOKENS, Tokens};
 
 // The most tokens of a row with its slots, and the most slots.

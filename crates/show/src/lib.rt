@@ -26,8 +26,8 @@ impl fmt::Display for Reply {
     }
 }
 
-// Nodes in a row, by their places: an iterator over them would have the type of a closure, which has no name that an impl
-// could give.
+// Nodes in a row, by their places, and not as an iterator: a text is written through a shared reference, by which no
+// iterator moves on.
 pub trait Nodes {
     ghost listed: { Self → List Node };
 
@@ -48,6 +48,7 @@ impl Nodes for &[u32] {
     }
 
     fn node(&self, place: usize) -> Node {
+        // As packing::unpack has it; a call of that would take crate packing for this line alone.
         let word = self[place];
         Node(codes::word_kind(word), codes::word_load(word))
     }

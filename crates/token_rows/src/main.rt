@@ -39,7 +39,7 @@ fn found(kinds: &[u8], types: &[u8]) -> Option<usize> {
 }
 
 // Whether the row is answered right that has this kind and this value type at these places, and the last ones
-// elsewhere.
+// elsewhere. The length and the places are numbers of loops, so that clauses say their bounds, and no struct.
 fn is_right(length: usize, kind_place: usize, type_place: usize, kind: u8, value_type: u8) -> bool
     requires { (length ≤ 40) × (kind_place < length) × (type_place < length) }
 {
@@ -83,7 +83,7 @@ fn by_type_place(length: usize, kind_place: usize) -> usize
     right
 }
 
-// The same over all places of both.
+// The same over all places of both. It stays apart from the one above, which needs a bound of its result, and this none.
 fn by_kind_place(length: usize) -> usize
     requires { length ≤ 40 }
 {

@@ -2,7 +2,8 @@
 // reply, and the nodes up to the count.
 #![tactic(auto)]
 
-ghost use Rattle.std.specs.Prelude.{◌≤◌, length};
+ghost use Rattle.std.specs.Prelude.{◌≡◌, ◌≤◌, length};
+ghost use Rattle.codes.specs.declared.limit.TheConstants.Limit as Limits;
 
 use codes::{BaseToken, Limit, TokenId, ValueTypeKeyword, node_count};
 use show::{Reply, Shown};
@@ -15,8 +16,12 @@ const UNUSED: u32 = 255;
 // The slots, of which a row is lent some.
 const SLOTS: usize = 8;
 
-// The texts and kinds of rows of at most four tokens and EndOfSource.
+// The texts and kinds of rows of at most four tokens and EndOfSource. They are arrays, and no slices, so that the type
+// gives the length, which show asks for; the places that are left hold EndOfSource too.
 type ShortRow = (&'static str, [u8; 5]);
+
+// The value types of such a row.
+const I32S: [u8; 5] = [ValueTypeKeyword::Int32; 5];
 
 const ACCEPTED: [ShortRow; 9] = [
     ("i32", [BaseToken::ValueTypeKeyword, 0, 0, 0, 0]),
@@ -116,14 +121,11 @@ const TOO_FEW_SLOTS: [&str; 4] = [
 
 const POINTER: [u8; 3] = [BaseToken::Ampersand, BaseToken::ValueTypeKeyword, 0];
 
-// The reply to a row whose value types are i32, with so many slots.
-fn show(rt: &impl Print, text: &str, kinds: &[u8], slots: usize) -> io::Result<()>
-    requires { (length kinds.now ≤ 42) × (slots ≤ 8) }
+// The reply to a row, with so many slots.
+fn show(rt: &impl Print, text: &str, row: Row<'_>, slots: usize) -> io::Result<()>
+    requires { (length row.types.now ≡ length row.kinds.now) × (length row.kinds.now ≤ Limits.Tokens)
+        × (slots ≤ 8) }
 {
-    let row = Row {
-        kinds,
-        types: &[ValueTypeKeyword::Int32; 42][..kinds.len()],
-    };
     let mut all_words = [UNUSED; SLOTS];
     let node_words = &mut all_words[..slots];
     let reply = types::parse_type(&row, node_words, TokenId(0), 0, Limit::Nesting);
@@ -141,15 +143,27 @@ fn show_pointers(rt: &impl Print, text: &str, ampersands: usize) -> io::Result<(
     let mut kinds = [BaseToken::Ampersand; 42];
     kinds[ampersands] = BaseToken::ValueTypeKeyword;
     kinds[ampersands + 1] = BaseToken::EndOfSource;
-    show(rt, text, &kinds, SLOTS)
+    let row = Row {
+        kinds: &kinds,
+        types: &[ValueTypeKeyword::Int32; 42],
+    };
+    show(rt, text, row, SLOTS)
 }
 
 fn main(rt: HostRuntime) -> io::Result<()> {
     for (text, kinds) in ACCEPTED.iter().chain(&REFUSED) {
-        show(&rt, text, kinds, SLOTS)?;
+        let row = Row {
+            kinds,
+            types: &I32S,
+        };
+        show(&rt, text, row, SLOTS)?;
     }
     for (slots, text) in TOO_FEW_SLOTS.iter().enumerate() {
-        show(&rt, text, &POINTER, slots)?;
+        let row = Row {
+            kinds: &POINTER,
+            types: &[ValueTypeKeyword::Int32; 3],
+        };
+        show(&rt, text, row, slots)?;
     }
     show_pointers(&rt, "33 39 &", 39)?;
     show_pointers(&rt, "34 40 &", 40)

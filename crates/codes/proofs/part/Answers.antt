@@ -1,6 +1,6 @@
 -- `codes::part` meets its contract: the table is the list of what part_number gives. No kind has more than four parts, and
 -- a kind past the table has none. Assumes nothing.
-use mathlib.Core.Path.{◌≡◌, refl, sym}
+use mathlib.Core.Path.{◌≡◌, refl, sym, ap, ◌∙◌}
 use mathlib.Core.Bool.{true}
 use mathlib.Core.List.{List, [], map}
 use mathlib.Core.Logic.{⊎_elim}
@@ -10,6 +10,7 @@ use lib.Dec.{leb}
 use lib.ListN.{length, get_or, get_or-eq_default}
 use borrow.Author.Rules.{rules}
 use borrow.Author.Tests.{leb-true}
+use Rattle.std.proofs.lemmas.Option.{slice_get_cases, unwrap_or-slice_get}
 use Rattle.rules.specs.Codes.{parts_of}
 use Rattle.codes.specs.Parts.{code_of, part_number}
 use Rattle.codes.proofs.Table.{values, entry, constant}
@@ -21,9 +22,6 @@ row kind = values (part_number kind) 4 0
 
 abbrev table : List (List ℕ)
 table = values row 64 0
-
-within : (kind place : ℕ) → kind < 64 → place < 4 → get_or (get_or table kind []) place 0 ≡ part_number kind place
-within kind place h l = rw (entry row [] 64 kind h) (entry (part_number kind) 0 4 place l)
 
 -- how many parts a kind has
 abbrev size : ℕ → ℕ
@@ -39,15 +37,24 @@ past : (kind place : ℕ) → size kind ≤ place → 0 ≡ part_number kind pla
 unfolding part_number
 past kind place h = sym (get_or-eq_default (map code_of (parts_of kind)) 0 h)
 
-pub returns-then-nth-lt4 : goal.returns-then-nth-lt4
-unfolding part_number
-returns-then-nth-lt4 c =
-    let args = c.args in
-    within args.kind args.place (search rules) (search rules)
+of_row : (kind place : ℕ) → kind < 64 → get_or (row kind) place 0 ≡ part_number kind place
+of_row kind place h =
+    ⊎_elim (λ w. entry (part_number kind) 0 4 place w.1)
+    (λ w. get_or-eq_default (row kind) 0 w.0 ∙ past kind place (omega (arith, few kind h, w.0)))
+    (slice_get_cases (row kind) place).1
 
-pub returns-else-at-lt64 : goal.returns-else-at-lt64
-returns-else-at-lt64 c =
+pub returns-in_default : goal.returns-in_default
+returns-in_default c =
     let kind = c.args.kind in
-    past kind c.args.place
-    (⊎_elim (λ w. omega (arith, few kind (search rules))) (λ w. omega (arith, none kind (search rules) (search rules)))
-    c.else-at-lt64.either)
+    past kind c.args.place (omega (arith, none kind (search rules) (search rules)))
+
+pub returns : goal.returns
+unfolding part_number
+returns c =
+    let kind = c.args.kind in
+    let h : kind < 64 = search rules in
+    let place : c.from.result ≡ kind = search rules in
+    let found : c.in-Some.parts.now ≡ get_or table c.from.result [] = (rw c.in-Some.is at c.get.ensures.lookup.3).1 [] in
+    let parts : c.in-Some.parts.now ≡ get_or table kind [] = found ∙ ap (λ (k : ℕ). get_or table k []) place in
+    let read : c.unwrap_or.result ≡ get_or c.in-Some.parts.now c.args.place 0 = search (rules, unwrap_or-slice_get) in
+    read ∙ ap (λ (l : List ℕ). get_or l c.args.place 0) (parts ∙ entry row [] 64 kind h) ∙ of_row kind c.args.place h

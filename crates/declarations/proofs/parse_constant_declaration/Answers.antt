@@ -12,9 +12,6 @@ returns-in_err-cursor c =
 pub parse_rest_of_constant-requires : goal.parse_rest_of_constant-requires
 parse_rest_of_constant-requires c = (
   search (rules, typed-sized, c.in_ok-cursor.was),
-  search rules,
-  search rules,
-  search rules,
   search (rules, typed-fits, c.in_ok-cursor.was),
 )
 

@@ -11,7 +11,7 @@ returns-in_err-cursor c =
 
 pub push_constant-requires : goal.push_constant-requires
 push_constant-requires c =
-    (search (rules, value-slots, c.in_ok-cursor.was), search rules, search rules, search rules, search rules)
+    (search (rules, value-slots, c.in_ok-cursor.was), search rules)
 
 pub returns : goal.returns
 returns c = search (rules, constant-value-read, c.in_ok-cursor.was)

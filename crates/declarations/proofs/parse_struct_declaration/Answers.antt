@@ -15,11 +15,11 @@ consume_optional-requires c = search (rules, past-name, c.in_ok-cursor.was)
 
 pub push_opaque_struct-requires : goal.push_opaque_struct-requires
 push_opaque_struct-requires c =
-    (search (rules, slots), search rules, search rules, search rules)
+    search (rules, slots)
 
 pub parse_structure-requires : goal.parse_structure-requires
 parse_structure-requires c =
-    (search (rules, past-consumed, c.in_ok-cursor.was), search rules, search rules, search rules, search rules)
+    (search (rules, past-consumed, c.in_ok-cursor.was), search rules)
 
 pub returns-in-Some : goal.returns-in-Some
 returns-in-Some c = search (rules, struct-opaque, c.in_ok-cursor.was)

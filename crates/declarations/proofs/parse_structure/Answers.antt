@@ -12,9 +12,6 @@ pub push_structure-requires : goal.push_structure-requires
 push_structure-requires c = (
   search (rules, members-slots, c.in_ok-cursor.was),
   search rules,
-  search rules,
-  search rules,
-  search rules,
   search (rules, members-fits, c.in_ok-cursor.was),
 )
 

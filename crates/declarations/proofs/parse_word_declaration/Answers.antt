@@ -10,13 +10,7 @@ pub returns-in_err-cursor : goal.returns-in_err-cursor
 returns-in_err-cursor c = returned c.from_residual.ensures.1 (search (rules, word-unnamed, c.in_err-cursor.was))
 
 pub parse_structure-requires : goal.parse_structure-requires
-parse_structure-requires c = (
-  search (rules, past-consumed, c.in_ok-cursor.was),
-  search rules,
-  search rules,
-  search (rules, size_fits),
-  search rules,
-)
+parse_structure-requires c = (search (rules, past-consumed, c.in_ok-cursor.was), search (rules, size_fits))
 
 pub returns : goal.returns
 returns c = search (rules, word_read, c.in_ok-cursor.was)

@@ -9,7 +9,7 @@ pub returns-in_err-cursor : goal.returns-in_err-cursor
 returns-in_err-cursor c = returned c.from_residual.ensures.1 (search (rules, structure-refused, c.in_err-cursor.was))
 
 pub push_declaration-requires : goal.push_declaration-requires
-push_declaration-requires c = (search (rules, two-slots, c.in_ok-cursor.was), search rules, search rules, search rules)
+push_declaration-requires c = search (rules, two-slots, c.in_ok-cursor.was)
 
 pub returns : goal.returns
 returns c = search (rules, structure-pushed, c.in_ok-cursor.was)

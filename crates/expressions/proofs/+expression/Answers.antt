@@ -5,14 +5,15 @@ use borrow.Author.Rules.{rules}
 use Rattle.codes.proofs.Onto.{returned}
 use Rattle.nodes.proofs.Bounds.{slots}
 use Rattle.tokens.proofs.Bounds.{past-optional, past-token}
-use Rattle.expressions.proofs.Bounds.{term-slots, factor-slots, past-expression, expression-slots, expression-kept}
+use Rattle.expressions.proofs.Bounds.{past-term, term-slots, term_fits, past-factor, factor-slots, factor-fits}
+use Rattle.expressions.proofs.Bounds.{past-expression, expression-slots, expression-kept}
 use Rattle.expressions.proofs.Bounds.{past-name, colon-sized, list-sized, fields-sized, reference-sized, group-sized}
-use Rattle.expressions.proofs.Bounds.{name-slots, owner-fits, fields_fit, depth-fits, name-fits, after-deref, deref-fits}
+use Rattle.expressions.proofs.Bounds.{name-slots, owner-fits, fields_fit, after-deref, deref-fits}
 use Rattle.expressions.proofs.Bounds.{past-cast, cast-fits, after-cast-unary, cast-unary-fits, advance-slots, size-inside}
 use Rattle.expressions.proofs.Bounds.{operand-sized, past-operand, operand-slots}
-use Rattle.expressions.proofs.Operands.{first-term, sum-stopped, sum-refused, sum-read, sum-sized, sum_less, sum-fits}
+use Rattle.expressions.proofs.Operands.{first-term, sum-stopped, sum-refused, sum-read, sum-sized, sum_less, next_fits}
 use Rattle.expressions.proofs.Operands.{next-term, first-factor, product-stopped, product-bare, product-refused}
-use Rattle.expressions.proofs.Operands.{product-read, product-sized, product-less, product-fits, next-factor}
+use Rattle.expressions.proofs.Operands.{product-read, product-sized, product-less, next-factor}
 use Rattle.expressions.proofs.Laws.{too-deep, expression-lone, expression-read, group-refused, group-read}
 use Rattle.expressions.proofs.Laws.{advance-none, advance-refused, advance-read, item-none, item-refused, item-read}
 use Rattle.expressions.proofs.Laws.{field-item, field-unnamed, field-short, field-refused, field-read, primary-refused}
@@ -25,6 +26,8 @@ use Rattle.expressions.proofs.Items.{turn-less, next-item, list-slots, list-fits
 use Rattle.expressions.proofs.Steps.{index-refused, element-refused, element-read, member-refused, member-read}
 use Rattle.expressions.proofs.Steps.{step-none, more-sized, more-fits, last-slots, last_fits, first_step}
 use Rattle.expressions.proofs.Steps.{steps-exceeded, steps-refused, steps-read, next-step}
+use Rattle.expressions.proofs.+expression.Goals.{step-in-5+in_ok-index-in-5+in_ok-longer-in-5}
+use Rattle.expressions.proofs.+expression.Goals.{step-in-21+in_ok-longer-in-21}
 use Rattle.expressions.proofs.+expression.Goals as goal
 
 pub addition-loop-right-init : goal.addition-loop-right-init
@@ -33,24 +36,29 @@ addition-loop-right-init t c = (refl, search rules, search rules, search (rules,
 pub addition-returns-in_err-right : goal.addition-returns-in_err-right
 addition-returns-in_err-right t c = returned c.from_residual.ensures.1 (search (rules, sum-stopped, c.in_err-right.was))
 
-pub addition-push_pending-requires : goal.addition-push_pending-requires
-addition-push_pending-requires t c = (search (rules, term-slots, c.in_ok-right.was), search rules)
+pub addition-join_term-requires : goal.addition-join_term-requires
+addition-join_term-requires t c = (
+  search (rules, term-slots, c.in_ok-right.was),
+  search (rules, past-term, c.in_ok-right.was),
+  search (rules, term_fits, c.in_ok-right.was),
+  search rules,
+)
 
-pub addition-returns-in_err-sum : goal.addition-returns-in_err-sum
-addition-returns-in_err-sum t c = returned c.from_residual-in_err-sum.ensures.1 (search (rules, sum-refused, c.in_ok-right.was, c.in_err-sum.was))
+pub addition-returns-in-Last : goal.addition-returns-in-Last
+addition-returns-in-Last t c = search (rules, sum-read, c.in_ok-right.was)
 
-pub addition-returns-in_default : goal.addition-returns-in_default
-addition-returns-in_default t c = search (rules, sum-read, c.in_ok-right.was, c.in_ok-sum.was)
+pub addition-returns-in-Refused : goal.addition-returns-in-Refused
+addition-returns-in-Refused t c = search (rules, sum-refused, c.in_ok-right.was)
 
 pub addition-loop-right-smaller : goal.addition-loop-right-smaller
-addition-loop-right-smaller t c = search (rules, sum_less, c.in_ok-right.was, c.in_ok-sum.was)
+addition-loop-right-smaller t c = search (rules, sum_less, c.in_ok-right.was)
 
 pub addition-loop-right-preserved : goal.addition-loop-right-preserved
 addition-loop-right-preserved t c = (
   search rules,
-  search (rules, sum-sized, c.in_ok-right.was, c.in_ok-sum.was),
-  search (rules, sum-fits, c.in_ok-right.was, c.in_ok-sum.was),
-  search (rules, next-term, c.in_ok-right.was, c.in_ok-sum.was),
+  search (rules, sum-sized, c.in_ok-right.was),
+  search (rules, next_fits),
+  search (rules, next-term, c.in_ok-right.was),
 )
 
 pub multiplication-loop-right-init : goal.multiplication-loop-right-init
@@ -62,24 +70,29 @@ multiplication-returns-in_err-right t c = returned c.from_residual.ensures.1 (se
 pub multiplication-returns-then-bare : goal.multiplication-returns-then-bare
 multiplication-returns-then-bare t c = search (rules, product-bare, c.in_ok-right.was)
 
-pub multiplication-push_pending-requires : goal.multiplication-push_pending-requires
-multiplication-push_pending-requires t c = (search (rules, factor-slots, c.in_ok-right.was), search rules)
+pub multiplication-join_factor-requires : goal.multiplication-join_factor-requires
+multiplication-join_factor-requires t c = (
+  search (rules, factor-slots, c.in_ok-right.was),
+  search (rules, past-factor, c.in_ok-right.was),
+  search (rules, factor-fits, c.in_ok-right.was),
+  search rules,
+)
 
-pub multiplication-returns-in_err-product : goal.multiplication-returns-in_err-product
-multiplication-returns-in_err-product t c = returned c.from_residual-in_err-product.ensures.1 (search (rules, product-refused, c.in_ok-right.was, c.in_err-product.was))
+pub multiplication-returns-in-Last : goal.multiplication-returns-in-Last
+multiplication-returns-in-Last t c = search (rules, product-read, c.in_ok-right.was)
 
-pub multiplication-returns-in_default : goal.multiplication-returns-in_default
-multiplication-returns-in_default t c = search (rules, product-read, c.in_ok-right.was, c.in_ok-product.was)
+pub multiplication-returns-in-Refused : goal.multiplication-returns-in-Refused
+multiplication-returns-in-Refused t c = search (rules, product-refused, c.in_ok-right.was)
 
 pub multiplication-loop-right-smaller : goal.multiplication-loop-right-smaller
-multiplication-loop-right-smaller t c = search (rules, product-less, c.in_ok-right.was, c.in_ok-product.was)
+multiplication-loop-right-smaller t c = search (rules, product-less, c.in_ok-right.was)
 
 pub multiplication-loop-right-preserved : goal.multiplication-loop-right-preserved
 multiplication-loop-right-preserved t c = (
   search rules,
-  search (rules, product-sized, c.in_ok-right.was, c.in_ok-product.was),
-  search (rules, product-fits, c.in_ok-right.was, c.in_ok-product.was),
-  search (rules, next-factor, c.in_ok-right.was, c.in_ok-product.was),
+  search (rules, product-sized, c.in_ok-right.was),
+  search (rules, next_fits),
+  search (rules, next-factor, c.in_ok-right.was),
 )
 
 pub advance-returns-in_default : goal.advance-returns-in_default
@@ -110,9 +123,6 @@ pub deref_steps-push_deref-requires : goal.deref_steps-push_deref-requires
 deref_steps-push_deref-requires t c = (
   search (rules, last-slots, c.in_ok-turn.was),
   search (rules, last_fits, c.in_ok-turn.was),
-  search rules,
-  search rules,
-  search rules,
 )
 
 pub deref_steps-returns-in-Last : goal.deref_steps-returns-in-Last
@@ -218,10 +228,7 @@ pub primary-rest_of_fields-requires : goal.primary-rest_of_fields-requires
 primary-rest_of_fields-requires t c = (search rules, (search (rules, fields-sized), search (rules, fields_fit)))
 
 pub primary-reference-requires : goal.primary-reference-requires
-primary-reference-requires t c = (
-  search rules,
-  (search (rules, reference-sized), search rules, search (rules, depth-fits), search (rules, name-fits)),
-)
+primary-reference-requires t c = (search rules, search (rules, reference-sized))
 
 pub primary-push_name-requires : goal.primary-push_name-requires
 primary-push_name-requires t c = (search (rules, name-slots), search rules)
@@ -355,11 +362,25 @@ step-returns-in_err-longer-in-5 t c = returned c.from_residual-in_err-longer-in-
 pub step-returns-in_err-longer-in-21 : goal.step-returns-in_err-longer-in-21
 step-returns-in_err-longer-in-21 t c = returned c.from_residual-in_err-longer-in-21.ensures.1 (search (rules, member-refused, c.in_err-longer-in-21.was))
 
-pub step-returns-in_ok-longer-in-5 : goal.step-returns-in_ok-longer-in-5
-step-returns-in_ok-longer-in-5 t c = search (rules, element-read, c.in_ok-index-in-5.was, c.in_ok-longer-in-5.was)
-
-pub step-returns-in_ok-longer-in-21 : goal.step-returns-in_ok-longer-in-21
-step-returns-in_ok-longer-in-21 t c = search (rules, member-read, c.in_ok-longer-in-21.was)
+pub step-returns : goal.step-returns
+step-returns t c =
+    elim c.match-peek.branch [
+      | step-in-5+in_ok-index-in-5+in_ok-longer-in-5 w ↦
+          rw (w.longer-is, w.node_words-is)
+          (search (
+            rules,
+            element-read,
+            c.peek.ensures,
+            w.in-5.is,
+            w.parse_expression.ensures,
+            w.in_ok-index-in-5.was,
+            w.finish_element.ensures,
+            w.in_ok-longer-in-5.was,
+          ))
+      | step-in-21+in_ok-longer-in-21 w ↦
+          rw (w.longer-is, w.node_words-is)
+          (search (rules, member-read, c.peek.ensures, w.in-21.is, w.parse_member.ensures, w.in_ok-longer-in-21.was))
+    ]
 
 pub step-returns-in_default : goal.step-returns-in_default
 step-returns-in_default t c = search (rules, step-none)

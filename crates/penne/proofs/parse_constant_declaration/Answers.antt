@@ -1,5 +1,5 @@
 -- `penne::parse_constant_declaration` meets its contract: an entry's laws, of its check and its reader.
-use Rattle.penne.proofs.Entries.{constant-entry, refused, declaration-sized, splits, followed}
+use Rattle.penne.proofs.Entries.{constant-entry, refused, declaration-fits, sized, splits, followed}
 use Rattle.penne.proofs.parse_constant_declaration.Goals as goal
 
 pub returns-in_err-passed : goal.returns-in_err-passed
@@ -7,9 +7,15 @@ returns-in_err-passed c =
     refused (constant-entry _ _ _ _ _) _ _ c.passed.ensures _ _
     c.check_declaration-checked.ensures c.in_err-passed.was c.from_residual.ensures.1
 
+pub invariant_of-declaration : goal.invariant_of-declaration
+invariant_of-declaration c =
+    declaration-fits c.args.kinds.now c.args.types.now _ _ _ c.passed.ensures
+    c.args.node_kinds.now c.args.node_loads.now _ _
+    c.check_declaration-checked.ensures c.in_ok-passed.was
+
 pub parse_constant_declaration-parsed-requires : goal.parse_constant_declaration-parsed-requires
 parse_constant_declaration-parsed-requires c =
-    declaration-sized _ _ _ _ _ c.passed.ensures _ _ _ _
+    sized (constant-entry _ _ _ _ _) _ _ c.passed.ensures _ _
     c.check_declaration-checked.ensures c.in_ok-passed.was
 
 pub split-requires : goal.split-requires

@@ -1,20 +1,25 @@
 -- `references::parse_ampersands` meets its contract: a law for each return, and what its loop keeps.
+use mathlib.Core.Path.{refl}
 use native.Mathlib.Omega.{arith}
-use borrow.Author.Rules.{rules}
 use Rattle.references.proofs.Laws.{counting-starts, counted, counted-over, counts-on}
 use Rattle.references.proofs.parse_ampersands.Goals as goal
 
-pub loop-after-init : goal.loop-after-init
-loop-after-init c = (omega arith, omega arith, counting-starts _ _ _ _)
+pub loop-depth-init : goal.loop-depth-init
+loop-depth-init c = (λ _. (omega arith, counting-starts _ _ _ _), λ h. absurd (omega arith))
 
-pub returns-then-depth-gt-AddressDepth : goal.returns-then-depth-gt-AddressDepth
-returns-then-depth-gt-AddressDepth c = (search (rules, counted-over), tt)
+pub consume_optional-requires : goal.consume_optional-requires
+consume_optional-requires c = let i = c.loop-depth.invariant.0 c.loop-depth-test.true in omega arith
 
-pub loop-after-preserved : goal.loop-after-preserved
-loop-after-preserved c =
-    let i = c.loop-after.invariant in
-    let (a, b, d) = counts-on i.2 c.consume_optional.ensures c.in-Some.is c.if-depth-gt-AddressDepth.false in
-    (a, b, d)
+pub returns-in_default : goal.returns-in_default
+returns-in_default c =
+    let i = c.loop-depth.invariant.0 c.loop-depth-test.true in
+    (counted i.1 c.consume_optional.ensures c.in_default.is, omega arith)
+
+pub loop-depth-preserved : goal.loop-depth-preserved
+loop-depth-preserved c =
+    let i = c.loop-depth.invariant.0 c.loop-depth-test.true in
+    let g = c.consume_optional.ensures in
+    (counts-on i.1 g c.in-Some.is, λ h. counted-over i.1 g c.in-Some.is h refl)
 
 pub returns : goal.returns
-returns c = (search (rules, counted), omega arith)
+returns c = rw c.exceeded.ensures (c.loop-depth.invariant.1 c.loop-depth-test.false, tt)
