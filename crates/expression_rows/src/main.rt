@@ -7,15 +7,12 @@ ghost use Rattle.row_text.specs.LineLimits as LineLimits;
 
 use codes::{Limit, TokenId, node_count};
 use row_text::Tokens;
-use show::{Reply, Shown};
+use show::{Reply, Shown, UNUSED};
 use std::io::{Result, Write};
 use tokens::Row;
 
 // The slots, of which a row says how many are lent.
 const SLOTS: usize = 512;
-
-// What a slot holds before a node is appended there; no node has this kind.
-const UNUSED: u32 = 255;
 
 // The reply to a row.
 fn show(out: &mut impl Write, text: &[u8], tokens: &Tokens, slots: usize) -> Result<()>

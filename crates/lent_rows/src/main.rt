@@ -11,7 +11,7 @@ ghost use Rattle.row_text.specs.LineLimits as LineLimits;
 use answers::Numbers;
 use codes::{BaseToken, Parsed, TokenId, node_count};
 use row_text::Tokens;
-use show::{Reply, Shown};
+use show::{Reply, Shown, UNUSED};
 use std::io::{Result, Write};
 use tokens::{Row, Taken};
 
@@ -25,9 +25,6 @@ const LAST_KIND: u8 = BaseToken::Error;
 const ITEMS: u32 = 3;
 
 const SLOTS: usize = 7;
-
-// What a slot holds before a node is appended there: a kind that no node has, and load 0.
-const UNUSED: u32 = 255;
 
 // Says so where an answer is not the core's.
 fn compare(out: &mut impl Write, ours: Numbers, core: Numbers) -> Result<()> {

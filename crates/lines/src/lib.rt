@@ -65,8 +65,8 @@ fn digits_in(line: &[u8]) -> usize
     line.iter().take_while(|byte| byte.is_ascii_digit()).count()
 }
 
-// The value of these digits, if it is at most so large. By no `parse` of a text: from_utf8
-// would look at each byte once more, and the digits are known.
+// The value of these digits, if it is at most so large. By no `parse`: the bytes would be made a text first, which can
+// fail, and that failure, which digits do not have, would be told as a number too large.
 fn value_of(digits: &[u8], most: u32) -> Option<u32>
     requires { AllPass is_ascii_digit digits.now }
     ensures { MatchOption result (most < value_of digits.now)

@@ -7,7 +7,8 @@ ghost use Rattle.packing.specs.Answer.{packing, unpacking};
 use codes::{Limit, Node, ParseResult, ParsingError, Refusal, TokenId};
 
 // The word of a node, or the refusal of a load that does not fit it. Neither this nor the way back is a From: Node is of
-// crate codes, and u32 of the language.
+// crate codes, and u32 of the language. In codes it would be a third function beside word_kind and word_load, which stay,
+// since an entry with columns takes a word's kind and load apart.
 pub fn pack(node: Node) -> ParseResult<u32>
     ensures { result ≡ packing node.0 node.1 }
 {

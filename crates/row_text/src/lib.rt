@@ -84,8 +84,8 @@ pub fn read_tokens(words: &[u8], tokens: &mut Tokens) -> Option<()>
     Some(())
 }
 
-// The number after this name, if the name stands here, and what follows; else the other number, and the line. Which of
-// the two it is is free in the promise, as what read_tokens and read_row read is.
+// The number after this name, if the name stands here, and what follows; else the other number, and the line. The
+// promise does not say which of the two, and those of read_tokens and read_row do not say what is read.
 pub fn setting<'a>(line: &'a [u8], name: &[u8], most: u32, other: u32) -> Option<(u32, &'a [u8])>
     requires { other ≤ most }
     ensures { IfSome result (λ read. Setting line.now most read.0 read.1.now) }

@@ -8,6 +8,9 @@ ghost use Rattle.show.specs.Shown.{reply_text, nodes_text, node_of, nodes_in};
 use codes::{Node, Parsed};
 use std::fmt;
 
+// What a test's slot holds before a node is appended there: a kind that no node has, and load 0.
+pub const UNUSED: u32 = 255;
+
 // `ok` or `no` and the reply's numbers, as penne-nodes has them.
 #[derive(Clone, Copy)]
 pub struct Reply(pub Parsed);

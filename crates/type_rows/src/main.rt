@@ -6,12 +6,9 @@ ghost use Rattle.std.specs.Prelude.{◌≡◌, ◌≤◌, length};
 ghost use Rattle.codes.specs.declared.limit.TheConstants.Limit as Limits;
 
 use codes::{BaseToken, Limit, TokenId, ValueTypeKeyword, node_count};
-use show::{Reply, Shown};
+use show::{Reply, Shown, UNUSED};
 use std::io;
 use tokens::Row;
-
-// What a slot holds before a node is appended there; no node has this kind.
-const UNUSED: u32 = 255;
 
 // The slots, of which a row is lent some.
 const SLOTS: usize = 8;
@@ -121,7 +118,8 @@ const TOO_FEW_SLOTS: [&str; 4] = [
 
 const POINTER: [u8; 3] = [BaseToken::Ampersand, BaseToken::ValueTypeKeyword, 0];
 
-// The reply to a row, with so many slots.
+// The reply to a row, with so many slots. It stays apart from that of expression_rows, which has its tokens from a line
+// and calls another reader.
 fn show(rt: &impl Print, text: &str, row: Row<'_>, slots: usize) -> io::Result<()>
     requires { (length row.types.now ≡ length row.kinds.now) × (length row.kinds.now ≤ Limits.Tokens)
         × (slots ≤ 8) }
