@@ -16,7 +16,7 @@ use Rattle.codes.proofs.Onto.{Onto, split, came-node, sized-after, plain-parsed}
 use Rattle.nodes.specs.Answer.{WithinSlots}
 use Rattle.nodes.proofs.Bounds.{slots, append-root, append-last}
 use Rattle.tokens.specs.Answer.{Optionally}
-use Rattle.tokens.proofs.Bounds.{optional-next, past-optional}
+use Rattle.tokens.proofs.Bounds.{optional-next, past-found}
 use Rattle.types.proofs.Bounds.{after-type}
 use Rattle.casts.specs.Answer.{bit_cast}
 use Rattle.rules.specs.Codes.Limit as Limit
@@ -68,16 +68,16 @@ module _
     (g : Gives (type_cast words (row tk tv) (type words (row tk tv) u) e) p.0 (nodes ns k) r ns')
     {v : Read NodeId} (q : r ≡ Ok v) (z : Sized tk tv ns c k) where
   pub after-as : Sized tk tv ns' v.cursor.0 v.count
-  after-as = (after-cast u e g q (past-optional d refl x z)).0
+  after-as = (after-cast u e g q (past-found d refl x z)).0
 
   pub as-moves : c < v.cursor.0
   as-moves =
-      let b = (after-cast u e g q (past-optional d refl x z)).1 in
+      let b = (after-cast u e g q (past-found d refl x z)).1 in
       let (w, y) = optional-next d refl x in
       omega arith
 
   pub as-root : v.value.0 ≤ Limit.Load
-  as-root = cast-root u e g q (past-optional d refl x z)
+  as-root = cast-root u e g q (past-found d refl x z)
 
   -- fewer tokens are left
   pub as-less : length tk - v.cursor.0 < length tk - c

@@ -36,6 +36,7 @@ use Rattle.rules.specs.Columns.{Nodes}
 use Rattle.rules.specs.Places.{place_of, input, Placed}
 use Rattle.rules.specs.Words.{word_kind, word_load}
 use Rattle.rules.specs.Demand as Demand
+use Rattle.std.specs.Result.{result_and}
 
 -- The laws of several checks in their order: one that passes and the next ones, the last one, and one that refuses.
 module _ {A : Check} {t : Checked} (f : check_of t ≡ A) where
@@ -46,6 +47,13 @@ module _ {A : Check} {t : Checked} (f : check_of t ≡ A) where
   pub refuses : {d : Failed} → t ≡ Err d → (r : Checked) → IsErrAnd r (λ e. e ≡ d) → (B : Check) → check_of r ≡ or_else A B
   unfolding or_else
   refuses e r h B = let p = err_from_is_err_and r h in rw (← f, e, p.1, p.2) refl
+
+-- two checks in their order, both made
+pub both : (t u : Checked) {r : Checked} {A B : Check} →
+    check_of t ≡ A → check_of u ≡ B → r ≡ result_and t u → check_of r ≡ or_else A B
+unfolding or_else
+both (Ok x) u f g e = rw (e, ← f) g
+both (Err d) u f g e = rw (e, ← f) refl
 
 last-check : (c : Check) → or_else c none ≡ c
 unfolding or_else
@@ -121,6 +129,9 @@ module _
       let y : get_or tv place 0 ≤ ValueTypeKeyword.Bool = at_most ValueTypeKeyword.Bool tv g place (omega arith) in
       rw (le-ltb _ _ x, le-ltb _ _ y) (none-bad (place + 1) left (omega arith))
 
+  all-good : none ≡ bad_token (row tk tv) 0 (length tk)
+  all-good = sym (none-bad 0 (length tk) (omega arith))
+
 -- a row of a right size, which is good where its kinds and its value types pass
 pub good-row :
     (tk tv : List ℕ) → length tv ≡ length tk → (length tk ≡ 0 → ⊥) → length tk ≤ Limit.Tokens → {good : Bool} →
@@ -132,7 +143,7 @@ good-row tk tv e h b {good} f =
       few = λ g. b;
       checked = λ g.
           let (x, y) = both_true (none_above BaseToken.Error tk) (none_above ValueTypeKeyword.Bool tv) (sym f ∙ g) in
-          rw (eq-eqb _ _ e, ne_eqb _ _ h, le-ltb _ _ b, none-bad tk tv x y e 0 (length tk) (omega arith))
+          rw (eq-eqb _ _ e, ne_eqb _ _ h, le-ltb _ _ b, sym (all-good tk tv x y e))
           (last-check (last_check (row tk tv)));
     }
 

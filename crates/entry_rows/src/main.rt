@@ -23,7 +23,7 @@ use penne::{
 };
 use question::{Entry, Question, Row, Sizes};
 use row_text::Tokens;
-use show::{Columns, Reply};
+use show::{Columns, Reply, Unfailing};
 use std::io::{Result, Write};
 
 // The most bytes of the input, and one more.
@@ -136,14 +136,14 @@ fn show_line(
         return out.write_all(b"\n");
     }
     match question::read_row(line, tokens) {
-        Some(row) => show_row(out, row, tokens, node_kinds, node_loads),
-        None => out.write_all(b"bad line\n"),
+        Ok(row) => show_row(out, row, tokens, node_kinds, node_loads),
+        Err(_) => out.write_all(b"bad line\n"),
     }
 }
 
 // The columns stand here once, and are lent to each row.
 fn main(rt: HostRuntime) -> Result<()> {
-    let mut out = rt.stdout();
+    let mut out = Unfailing(rt.stdout());
     let mut tokens = Tokens::new();
     let mut node_kinds = [0; SLOTS];
     let mut node_loads = [0; SLOTS];

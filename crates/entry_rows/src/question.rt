@@ -6,7 +6,8 @@
 // be left out. Cursor, node count, declaration start and flags are then 0; `kind`, the declaring token of a word, is
 // 47; `slots`, those of the node kinds, are 64; `loads`, those of the node loads, are as many as slots; and `types`,
 // the length of the value-type column, is the number of tokens.
-ghost use Rattle.std.specs.Prelude.{◌≤◌, IfSome};
+ghost use Rattle.std.specs.Prelude.{◌≤◌, ◌≡◌, length, take, MatchResult};
+ghost use Rattle.lines.specs.Line.{Within};
 ghost use Rattle.entry_rows.specs.QuestionLimits as QuestionLimits;
 ghost use Rattle.entry_rows.specs.Fits.{SizesFit, Fits};
 
@@ -70,19 +71,26 @@ pub struct Row<'a> {
     pub sizes: Sizes,
 }
 
-// The entry that is named here, and what follows.
-fn read_entry(line: &[u8]) -> Option<(Entry, &[u8])> {
-    ENTRIES.iter().find_map(|(name, entry)| Some((*entry, after(line, name.as_bytes())?)))
+// The entry that is named here, and what follows; the line where none is named.
+fn read_entry(line: &[u8]) -> Result<(Entry, &[u8]), &[u8]>
+    ensures { MatchResult result (λ read. Within line.now read.1.now) (λ rest. Within line.now rest.now) }
+{
+    ENTRIES
+        .iter()
+        .find_map(|(name, entry)| Some((*entry, after(line, name.as_bytes())?)))
+        .ok_or(line)
 }
 
-// The question, and what follows.
-fn read_question(line: &[u8]) -> Option<(Question, &[u8])> {
-    let (entry, line) = read_entry(line)?;
-    let (cursor, line) = setting(skip(line), b"cursor", ANY, 0)?;
-    let (count, line) = setting(line, b"count", ANY, 0)?;
-    let (start, line) = setting(line, b"start", ANY, 0)?;
-    let (flags, line) = setting(line, b"flags", ANY, 0)?;
-    let (kind, line) = setting(line, b"kind", BYTE, u32::from(BaseToken::Word8))?;
+// The question, and what follows; what stands from a place on that could not be read.
+fn read_question(line: &[u8]) -> Result<(Question, &[u8]), &[u8]>
+    ensures { MatchResult result (λ read. Within line.now read.1.now) (λ rest. Within line.now rest.now) }
+{
+    let (entry, rest) = read_entry(line)?;
+    let (cursor, rest) = setting(skip(rest), b"cursor", ANY, 0)?;
+    let (count, rest) = setting(rest, b"count", ANY, 0)?;
+    let (start, rest) = setting(rest, b"start", ANY, 0)?;
+    let (flags, rest) = setting(rest, b"flags", ANY, 0)?;
+    let (kind, rest) = setting(rest, b"kind", BYTE, u32::from(BaseToken::Word8))?;
     let question = Question {
         entry,
         cursor,
@@ -91,38 +99,43 @@ fn read_question(line: &[u8]) -> Option<(Question, &[u8])> {
         flags,
         kind: kind as u8,
     };
-    Some((question, line))
+    Ok((question, rest))
 }
 
-// The lengths, of a row with so many tokens, and what follows.
-fn read_sizes(line: &[u8], tokens: u32) -> Option<(Sizes, &[u8])>
+// The lengths, of a row with so many tokens, and what follows; what stands from a place on that could not be read.
+fn read_sizes(line: &[u8], tokens: u32) -> Result<(Sizes, &[u8]), &[u8]>
     requires { tokens ≤ QuestionLimits.tokens }
-    ensures { IfSome result (λ read. SizesFit read.0) }
+    ensures { MatchResult result (λ read. SizesFit read.0 × Within line.now read.1.now)
+        (λ rest. Within line.now rest.now) }
 {
-    let (slots, line) = setting(line, b"slots", MOST_SLOTS, USUAL_SLOTS)?;
-    let (loads, line) = setting(line, b"loads", MOST_SLOTS, slots)?;
-    let (types, line) = setting(line, b"types", MOST_TOKENS, tokens)?;
+    let (slots, rest) = setting(line, b"slots", MOST_SLOTS, USUAL_SLOTS)?;
+    let (loads, rest) = setting(rest, b"loads", MOST_SLOTS, slots)?;
+    let (types, rest) = setting(rest, b"types", MOST_TOKENS, tokens)?;
     let sizes = Sizes {
         types: types as usize,
         slots: slots as usize,
         loads: loads as usize,
     };
-    Some((sizes, line))
+    Ok((sizes, rest))
 }
 
-// The row that a line says; its tokens are put in place of those that are there.
-pub fn read_row<'a>(line: &'a [u8], tokens: &mut Tokens) -> Option<Row<'a>>
-    ensures { IfSome result (λ row. Fits line.now row) }
+// The row that a line says; its tokens are put in place of those that are there. Where it says none, its text.
+pub fn read_row<'a>(line: &'a [u8], tokens: &mut Tokens) -> Result<Row<'a>, &'a [u8]>
+    ensures { MatchResult result (λ row. Fits line.now row)
+        (λ text. text.now ≡ take (length text.now) line.now) }
 {
-    let (text, asked) = split_once(line, b'#')?;
-    let (asked, words) = split_once(asked, b':')?;
-    row_text::read_tokens(words, tokens)?;
-    let (question, rest) = read_question(skip(asked))?;
-    let (sizes, rest) = read_sizes(rest, tokens.len() as u32)?;
+    let Some((text, said)) = split_once(line, b'#') else {
+        return Err(trim(line));
+    };
+    let text = trim(text);
+    let (asked, words) = split_once(said, b':').ok_or(text)?;
+    row_text::read_tokens(words, tokens).or(Err(text))?;
+    let (question, rest) = read_question(skip(asked)).or(Err(text))?;
+    let (sizes, rest) = read_sizes(rest, tokens.len() as u32).or(Err(text))?;
     let row = Row {
-        text: trim(text),
+        text,
         question,
         sizes,
     };
-    rest.is_empty().then_some(row)
+    if rest.is_empty() { Ok(row) } else { Err(text) }
 }

@@ -7,7 +7,7 @@ ghost use Rattle.row_text.specs.LineLimits as LineLimits;
 
 use codes::{Limit, TokenId, node_count};
 use row_text::Tokens;
-use show::{Reply, Shown, UNUSED};
+use show::{Reply, Shown, UNUSED, Unfailing};
 use std::io::{Result, Write};
 use tokens::Row;
 
@@ -39,13 +39,13 @@ fn show_line(out: &mut impl Write, line: &[u8], tokens: &mut Tokens) -> Result<(
         return out.write_all(b"\n");
     }
     match row_text::read_row(line, tokens) {
-        Some(row) => show(out, row.text, tokens, row.slots),
-        None => out.write_all(b"bad line\n"),
+        Ok(row) => show(out, row.text, tokens, row.slots),
+        Err(_) => out.write_all(b"bad line\n"),
     }
 }
 
 fn main(rt: HostRuntime) -> Result<()> {
-    let mut out = rt.stdout();
+    let mut out = Unfailing(rt.stdout());
     let mut buffer = io::large_buffer();
     let Some(input) = row_text::read_input(&mut buffer) else {
         return out.write_all(b"bad file\n");

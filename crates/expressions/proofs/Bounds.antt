@@ -18,8 +18,8 @@ use Rattle.codes.specs.Words.{Gives, Quiet, Sized, nodes}
 use Rattle.codes.proofs.Onto.{split, sized-after, plain-parsed, moved, came-node}
 use Rattle.nodes.specs.Answer.{WithinSlots}
 use Rattle.nodes.proofs.Bounds.{slots, append-last}
-use Rattle.tokens.specs.Answer.{kind_in, Optionally, consumed, consuming}
-use Rattle.tokens.proofs.Bounds.{past-optional, past-token, past-consumed, in_row}
+use Rattle.tokens.specs.Answer.{kind_in, after, Optionally, consumed, consuming}
+use Rattle.tokens.proofs.Bounds.{past-found, past-optional, past-token, past-consumed, in_row}
 use Rattle.casts.specs.Answer.{Casting, cast_at}
 use Rattle.lists.specs.declared.Owner.{Owner}
 use Rattle.lists.specs.Answer.{Small}
@@ -78,10 +78,12 @@ module _ {tk tv ns : List ℕ} {c k : ℕ} {o : ParseResult TokenId}
     pub past-name : w.0 ≤ Limit.Tokens + 1
     past-name = let y = past-consumed _ g q refl z in omega arith
 
-    pub colon-sized :
-        {v : Optional TokenId} → Optionally tk BaseToken.Colon w.0 v → {p : TokenId} → v ≡ Some p →
-        Sized tk tv ns p.0 k
-    colon-sized d x = past-optional d refl x (past-consumed _ g q refl z)
+    module _ {v : Optional TokenId} (d : Optionally tk BaseToken.Colon w.0 v) where
+      pub colon-sized : Sized tk tv ns (after w.0 v) k
+      colon-sized = past-optional d refl (past-consumed _ g q refl z)
+
+      pub colon-found : {p : TokenId} → v ≡ Some p → Sized tk tv ns p.0 k
+      colon-found x = rw x at colon-sized
 
 -- after the first tokens of a primary
 module _ (tk : List ℕ) (piped : Bool) (c k : ℕ) {o : Opening} (g : Starts piped tk c k o) {tv ks : List ℕ}
@@ -142,7 +144,7 @@ pub past-either :
     {tk tv ns : List ℕ} {key : ℕ} {c : TokenId} {k : ℕ} {o : Optional TokenId} → Optionally tk key c.0 o →
     Nonzero key → {from : TokenId} → from ≡ unwrap_or o c → Sized tk tv ns c.0 k → Sized tk tv ns from.0 k
 past-either {o = None} d n e z = rw e z
-past-either {o = Some p} d n e z = rw e (past-optional d n refl z)
+past-either {o = Some p} d n e z = rw e (past-found d n refl z)
 
 -- after a `cast`, if there is one
 pub past-cast :
@@ -236,12 +238,18 @@ module _ {tk tv ns : List ℕ} {c : TokenId} {k : ℕ} (u : ℕ) (bare : Bool) {
   cast-unary-fits = unary-fits u g q (past-cast bare d e z)
 
 -- after `..` and its expression
-pub advance-slots :
-    {tk tv ns : List ℕ} {c k : ℕ} (u : ℕ) {o : Optional TokenId} → Optionally tk BaseToken.Dots c o → {p : TokenId} →
-    o ≡ Some p → {r : ParseResult (Read NodeId)} {ns' : List ℕ} →
-    Gives (expression words (row tk tv) u) p.0 (nodes ns k) r ns' →
-    {v : Read NodeId} → r ≡ Ok v → Sized tk tv ns c k → WithinSlots ns' v.count
-advance-slots u d x g q z = expression-slots u g q (past-optional d refl x z)
+module _
+    {tk tv ns : List ℕ} {c k : ℕ} (u : ℕ) {o : Optional TokenId} (d : Optionally tk BaseToken.Dots c o)
+    {r : ParseResult (Read NodeId)} {ns' : List ℕ} where
+  pub advance-slots :
+      Gives (expression words (row tk tv) u) (after c o) (nodes ns k) r ns' → {v : Read NodeId} → r ≡ Ok v →
+      Sized tk tv ns c k → WithinSlots ns' v.count
+  advance-slots g q z = expression-slots u g q (past-optional d refl z)
+
+  pub advance-found :
+      {p : TokenId} → o ≡ Some p → Gives (expression words (row tk tv) u) p.0 (nodes ns k) r ns' →
+      {v : Read NodeId} → r ≡ Ok v → Sized tk tv ns c k → WithinSlots ns' v.count
+  advance-found x g q z = expression-slots u g q (past-found d refl x z)
 
 -- a `|:` stands in the row
 pub size-inside :
@@ -271,6 +279,18 @@ prefix-sized {tk} {tv} {ns} {c} {k} t peeked z = by-pipe (eqb t BaseToken.Pipe) 
     by-pipe true e = past-token t _ peeked (eqb-true t _ e) refl z
     by-pipe false e = by-exclamation (eqb t BaseToken.Exclamation) refl
 
+-- after a primary, or a reference between pipes
+pub after-primary :
+    {tk tv ns : List ℕ} {c k : ℕ} (u : ℕ) (piped : Bool) {r : ParseResult (Read NodeId)} {ns' : List ℕ} →
+    Gives (within (primary_or piped) u (row tk tv)) c (nodes ns k) r ns' → {v : Read NodeId} → r ≡ Ok v →
+    Sized tk tv ns c k → Sized tk tv ns' v.cursor.0 v.count
+unfolding within primary_or
+after-primary {tk} {tv} {c = c} u piped g q z =
+    (sized-after z plain-parsed
+    (picks piped
+    (reference-moves (below (row tk tv)) (omega arith) (expression-moves (below (row tk tv)) (omega arith) u) c)
+    (primary-moves (below (row tk tv)) (omega arith) (expression-moves (below (row tk tv)) (omega arith) u) c)) g q).0
+
 module _ {tk tv ns : List ℕ} {c k : ℕ} (t : ℕ) (peeked : t ≡ kind_in tk c) {from : TokenId}
     (w : from.0 ≡ prefix_end t c) (z : Sized tk tv ns c k) where
   pub operand-sized : Sized tk tv ns from.0 k
@@ -279,18 +299,8 @@ module _ {tk tv ns : List ℕ} {c k : ℕ} (t : ℕ) (peeked : t ≡ kind_in tk 
   module _ (u : ℕ) (piped : Bool) {r : ParseResult (Read NodeId)} {ns' : List ℕ}
       (g : Gives (within (primary_or piped) u (row tk tv)) from.0 (nodes ns k) r ns') {v : Read NodeId} (q : r ≡ Ok v)
     where
-      -- after a primary, or a reference between pipes
-      pub after-primary : Sized tk tv ns' v.cursor.0 v.count
-      unfolding within primary_or
-      after-primary =
-          (sized-after operand-sized plain-parsed
-          (picks piped
-          (reference-moves (below (row tk tv)) (omega arith) (expression-moves (below (row tk tv)) (omega arith) u) from.0)
-          (primary-moves (below (row tk tv)) (omega arith) (expression-moves (below (row tk tv)) (omega arith) u) from.0))
-          g q).0
-
       pub past-operand : v.cursor.0 ≤ Limit.Tokens + 1
-      past-operand = let y = after-primary in omega arith
+      past-operand = let y = after-primary u piped g q operand-sized in omega arith
 
       pub operand-slots : WithinSlots ns' v.count
-      operand-slots = slots after-primary
+      operand-slots = slots (after-primary u piped g q operand-sized)

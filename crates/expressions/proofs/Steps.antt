@@ -48,41 +48,52 @@ module _ (tk tv : List ℕ) (u c t : ℕ) (peeked : t ≡ kind_in tk c) (l : Act
     unfolding stepping step
     index-refused q = hands_on _ (reads _ (there tk c t peeked tv _ e)) (told g q)
 
-    module _ {v : Read NodeId} (q : r₁ ≡ Ok v) (z : ParseResult (Read ActiveList)) {ks₂ : List ℕ}
-        (d : Untyped stepped (elementing (ends l) v.value.0) tk v.cursor.0 (nodes ks₁ v.count) (one_more z)
-        ks₂) where
-      element-ends : As stepped (stepping (ends l) u (row tk tv)) c (nodes ks k) (one_more z) ks₂
-      unfolding stepping step elementing
-      element-ends = shows (reads _ (there tk c t peeked tv _ e) then reads _ (came-node g q)) (d.run tv)
-
-      pub element-refused :
-          {x : ParsingError} → z ≡ Err x → As stepped (stepping (ends l) u (row tk tv)) c (nodes ks k) (Err x) ks₂
-      element-refused w = rw w at element-ends
-
+    module _ {v : Read NodeId} (q : r₁ ≡ Ok v) where
       pub element-read :
-          {m : Read ActiveList} → z ≡ Ok m →
-          As stepped (stepping (ends l) u (row tk tv)) c (nodes ks k)
-          (Ok (record { value = More m.value; cursor = m.cursor; count = m.count })) ks₂
-      element-read w = rw w at element-ends
+          {r : ParseResult (Read (Turn ActiveList))} {ks₂ : List ℕ} →
+          Untyped stepped (elementing (ends l) v.value.0) tk v.cursor.0 (nodes ks₁ v.count) r ks₂ →
+          As stepped (stepping (ends l) u (row tk tv)) c (nodes ks k) r ks₂
+      unfolding stepping step elementing
+      element-read d = shows (reads _ (there tk c t peeked tv _ e) then reads _ (came-node g q)) (d.run tv)
 
-  module _ (e : t ≡ BaseToken.Dot) (z : ParseResult (Read ActiveList)) {ks₁ : List ℕ}
-      (d : Untyped stepped (membering (ends l)) tk (c + 1) (nodes ks k) (one_more z) ks₁) where
-    member-ends : As stepped (stepping (ends l) u (row tk tv)) c (nodes ks k) (one_more z) ks₁
+      -- the same, by the list with the step
+      module _ (z : ParseResult (Read ActiveList)) {ks₂ : List ℕ}
+          (d : Untyped stepped (elementing (ends l) v.value.0) tk v.cursor.0 (nodes ks₁ v.count) (one_more z) ks₂)
+        where
+          pub element-refused :
+              {x : ParsingError} → z ≡ Err x →
+              As stepped (stepping (ends l) u (row tk tv)) c (nodes ks k) (Err x) ks₂
+          element-refused w = rw w at (element-read d)
+
+          pub element-listed :
+              {m : Read ActiveList} → z ≡ Ok m →
+              As stepped (stepping (ends l) u (row tk tv)) c (nodes ks k)
+              (Ok (record { value = More m.value; cursor = m.cursor; count = m.count })) ks₂
+          element-listed w = rw w at (element-read d)
+
+  module _ (e : t ≡ BaseToken.Dot) where
+    pub member-read :
+        {r : ParseResult (Read (Turn ActiveList))} {ks₁ : List ℕ} →
+        Untyped stepped (membering (ends l)) tk (c + 1) (nodes ks k) r ks₁ →
+        As stepped (stepping (ends l) u (row tk tv)) c (nodes ks k) r ks₁
     unfolding stepping step membering
-    member-ends =
+    member-read d =
         shows
         (reads _ (not_there tk c t peeked tv _ (apart t _ _ refl e)) then reads _ (there tk c t peeked tv _ e))
         (d.run tv)
 
-    pub member-refused :
-        {x : ParsingError} → z ≡ Err x → As stepped (stepping (ends l) u (row tk tv)) c (nodes ks k) (Err x) ks₁
-    member-refused w = rw w at member-ends
+    -- the same, by the list with the step
+    module _ (z : ParseResult (Read ActiveList)) {ks₁ : List ℕ}
+        (d : Untyped stepped (membering (ends l)) tk (c + 1) (nodes ks k) (one_more z) ks₁) where
+      pub member-refused :
+          {x : ParsingError} → z ≡ Err x → As stepped (stepping (ends l) u (row tk tv)) c (nodes ks k) (Err x) ks₁
+      member-refused w = rw w at (member-read d)
 
-    pub member-read :
-        {m : Read ActiveList} → z ≡ Ok m →
-        As stepped (stepping (ends l) u (row tk tv)) c (nodes ks k)
-        (Ok (record { value = More m.value; cursor = m.cursor; count = m.count })) ks₁
-    member-read w = rw w at member-ends
+      pub member-listed :
+          {m : Read ActiveList} → z ≡ Ok m →
+          As stepped (stepping (ends l) u (row tk tv)) c (nodes ks k)
+          (Ok (record { value = More m.value; cursor = m.cursor; count = m.count })) ks₁
+      member-listed w = rw w at (member-read d)
 
 pub step-none :
     (tk tv : List ℕ) (u c k t : ℕ) → t ≡ kind_in tk c → (l : ActiveList) {ks : List ℕ} →

@@ -70,10 +70,10 @@ module _ (more : ℕ) where
   raises (kind ∷ kinds) = let h = raises kinds in omega arith
 
 -- so many bytes
-one_byte : (n : ℕ) → 2 ^ (8 * suc n) ≡ 2 ^ (8 * n) * 2 ^ 8
+pub one_byte : (n : ℕ) → 2 ^ (8 * suc n) ≡ 2 ^ (8 * n) * 2 ^ 8
 one_byte n = let e : 8 * suc n ≡ 8 * n + 8 = omega arith in rw e (pow-add 2 (8 * n) 8)
 
-fits : (kinds : List ℕ) → none_above 255 kinds ≡ true → number kinds < 2 ^ (8 * length kinds)
+pub fits : (kinds : List ℕ) → none_above 255 kinds ≡ true → number kinds < 2 ^ (8 * length kinds)
 unfolding number
 fits [] h = omega arith
 fits (kind ∷ kinds) h =

@@ -164,7 +164,7 @@ fold-alike most (byte ∷ column) =
 at-limit : (most limit : ℕ) → nat_le most limit ≡ none_above limit (most ∷ [])
 at-limit most limit = sym (and-true (nat_le most limit)) ∙ asked limit (most ∷ [])
 
-largest-at :
+pub largest-at :
     (limit : ℕ) {bytes column : List ℕ} → Alike bytes column → {most : ℕ} → most ≡ fold max 0 bytes →
     nat_le most limit ≡ none_above limit column
 unfolding none_above
@@ -238,7 +238,7 @@ module _
   joins xs l x =
       put (λ (y : ℕ). eqb (bit_and y tops_of_a_word) 0) clear (λ y ys. refl) bit_or (λ y z. masked y z tops_of_a_word) xs lane l x
 
-  one_word :
+  pub one_word :
       Joined limit (row ++ kinds) (set tops lane (bit_or (get_or tops lane 0) word))
       (set sums lane (bit_or (get_or sums lane 0) other))
   one_word =

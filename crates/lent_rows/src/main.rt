@@ -11,7 +11,7 @@ ghost use Rattle.row_text.specs.LineLimits as LineLimits;
 use answers::Numbers;
 use codes::{BaseToken, Parsed, TokenId, node_count};
 use row_text::Tokens;
-use show::{Reply, Shown, UNUSED};
+use show::{Reply, Shown, UNUSED, Unfailing};
 use std::io::{Result, Write};
 use tokens::{Row, Taken};
 
@@ -76,7 +76,7 @@ fn show_line(out: &mut impl Write, line: &[u8], tokens: &mut Tokens) -> Result<(
         out.write_all(line)?;
         return out.write_all(b"\n");
     }
-    let Some(row) = row_text::read_row(line, tokens) else {
+    let Ok(row) = row_text::read_row(line, tokens) else {
         return out.write_all(b"bad line\n");
     };
     match u8::try_from(row.slots) {
@@ -110,7 +110,7 @@ fn show_list(out: &mut impl Write, slots: usize) -> Result<()>
 }
 
 fn main(rt: HostRuntime) -> Result<()> {
-    let mut out = rt.stdout();
+    let mut out = Unfailing(rt.stdout());
     let mut buffer = io::large_buffer();
     let Some(input) = row_text::read_input(&mut buffer) else {
         return out.write_all(b"bad file\n");

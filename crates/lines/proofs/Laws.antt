@@ -5,9 +5,10 @@ use Rattle.std.specs.List.{fold, AllPass}
 use Rattle.std.proofs.lemmas.List.Folds.{length-prefix_len}
 use Rattle.std.proofs.lemmas.List.Sums.{prefix_len_passes, fold_more}
 use Rattle.std.proofs.lemmas.List.{get_or-take, drop-drop}
+use native.Mathlib.Numerals.{unary_clauses}
 use lib.Pointwise.{pointwise}
 use Rattle.lines.specs.Line.{Within, after_name}
-use Rattle.lines.specs.Numbers.{value_of_digit, digits_in, value_of}
+use Rattle.lines.specs.Numbers.{value_of_digit, digits_in, value_of, read_until}
 
 -- the end of the end of a line
 pub within-more : {line rest end : List ℕ} → Within line rest → Within rest end → Within line end
@@ -48,6 +49,23 @@ pub value-grows : (digits : List ℕ) (i : ℕ) → i < length digits →
 value-grows digits i h =
     let f = λ (v d : ℕ). v * 10 + value_of_digit d in
     rw (← fold_more f 0 digits i 0 h) (grows 0 digits (i + 1))
+
+-- one more digit is read of a number that is not too large yet
+pub until-next : (most value : ℕ) (digits : List ℕ) (i : ℕ) → value ≤ most → i < length digits →
+    read_until most value (drop i digits) ≡
+    1 + read_until most (value * 10 + value_of_digit (get_or digits i 0)) (drop (i + 1) digits)
+unfolding read_until
+until-next most value [] i h k = omega (arith, k)
+until-next most value (digit ∷ digits) zero h k = grind (arith)
+until-next most value (digit ∷ digits) (suc i) h k =
+    let e = until-next most value digits i h (omega (arith, k)) in
+    simp unary_clauses (simp unary_clauses at e)
+
+-- no more is read of one that is
+pub until-above : (most value : ℕ) (digits : List ℕ) → most < value → read_until most value digits ≡ 0
+unfolding read_until
+until-above most value [] h = refl
+until-above most value (digit ∷ digits) h = grind (arith)
 
 -- the first bytes of a line that are digits
 pub digits-pass : (line : List ℕ) → AllPass is_ascii_digit (take (digits_in line) line)

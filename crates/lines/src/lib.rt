@@ -2,14 +2,14 @@
 // no `str`, since its text may be any bytes.
 #![tactic(auto)]
 
-ghost use Rattle.std.specs.Prelude.{◌≡◌, ◌<◌, ◌≤◌, None, Some, MatchOption, IfSome};
+ghost use Rattle.std.specs.Prelude.{◌≡◌, ◌<◌, ◌≤◌, length, None, Some, Ok, Err, MatchOption, MatchResult, IfSome};
 ghost use Rattle.std.specs.Char.{is_ascii_digit};
 ghost use Rattle.std.specs.List.{AllPass};
 ghost use Rattle.lines.specs.Line.{Within, Lacks, Parted, Skipped, Trimmed, is_row, after_name};
-ghost use Rattle.lines.specs.Numbers.{Numbered, number_at, decimal, digits_in, value_of};
+ghost use Rattle.lines.specs.Numbers.{Numbered, number_at, decimal, digits_in, value_of, read_until};
 
 // Numbers are decimal.
-const BASE: u32 = 10;
+const BASE: u64 = 10;
 
 // Whether a line of an input says a row. One that is empty or begins with `#` says none.
 pub fn is_row(line: &[u8]) -> bool
@@ -65,31 +65,42 @@ fn digits_in(line: &[u8]) -> usize
     line.iter().take_while(|byte| byte.is_ascii_digit()).count()
 }
 
-// The value of these digits, if it is at most so large. By no `parse`: the bytes would be made a text first, which can
-// fail, and that failure, which digits do not have, would be told as a number too large.
-fn value_of(digits: &[u8], most: u32) -> Option<u32>
+// The value of these digits, if it is at most so large; else how many of them are read until it is larger. By no
+// `parse`: the bytes would be made a text first, which can fail, and that failure, which digits do not have, would be
+// told as a number too large.
+fn value_of(digits: &[u8], most: u32) -> Result<u32, usize>
     requires { AllPass is_ascii_digit digits.now }
-    ensures { MatchOption result (most < value_of digits.now)
-        (λ value. (value ≡ value_of digits.now) × (value ≤ most)) }
+    ensures { MatchResult result
+        (λ value. (value ≡ value_of digits.now) × (value ≤ most))
+        (λ read. (most < value_of digits.now) × (read ≡ read_until most 0 digits.now)
+        × (read ≤ length digits.now)) }
 {
-    let mut value: u32 = 0;
-    for digit in digits {
-        let digit = u32::from(*digit - b'0');
-        value = value.checked_mul(BASE)?.checked_add(digit)?;
+    let limit = u64::from(most);
+    let mut value: u64 = 0;
+    for (place, digit) in digits.iter().enumerate() {
+        value = value * BASE + u64::from(*digit - b'0');
+        if value > limit {
+            return Err(place + 1);
+        }
     }
-    (value <= most).then_some(value)
+    Ok(value as u32)
 }
 
-// The number that begins the line, if it is at most so large, and what stands after it.
-pub fn number(line: &[u8], most: u32) -> Option<(u32, &[u8])>
-    ensures bounds { IfSome result (λ read. Numbered line.now most read.0 read.1.now) }
-    ensures is { MatchOption result (number_at line.now most ≡ None)
-        (λ read. number_at line.now most ≡ Some (decimal read.0 read.1.now)) }
+// The number that begins the line, if it is at most so large, and what stands after it; else what stands after the
+// digits that were read: after all there are, or after the first one by which the number is too large.
+pub fn number(line: &[u8], most: u32) -> Result<(u32, &[u8]), &[u8]>
+    ensures bounds { MatchResult result (λ read. Numbered line.now most read.0 read.1.now)
+        (λ rest. Within line.now rest.now) }
+    ensures is { MatchResult result
+        (λ read. number_at line.now most ≡ Ok (decimal read.0 read.1.now))
+        (λ rest. number_at line.now most ≡ Err rest.now) }
 {
     let (digits, rest) = line.split_at(digits_in(line));
     if digits.is_empty() {
-        return None;
+        return Err(line);
     }
-    let value = value_of(digits, most)?;
-    Some((value, rest))
+    match value_of(digits, most) {
+        Ok(value) => Ok((value, rest)),
+        Err(read) => Err(&line[read..]),
+    }
 }

@@ -125,6 +125,10 @@ pub came-listed :
 came-listed g {v} q = came-read g plain-listed {a = ends v.value} (q ∙ listed-back)
 
 -- the place after the items
+pub past_first : {l : ActiveList} {f e : NodeId} → l ≡ Open f e → f.0 < past l
+unfolding past
+past_first q = rw q (omega arith)
+
 pub past-last : {l : ActiveList} {f e : NodeId} → l ≡ Open f e → e.0 < past l
 unfolding past
 past-last q = rw q (omega arith)

@@ -11,9 +11,10 @@ use Rattle.std.proofs.lemmas.List.{get_or-take}
 use lib.Dec.{ltb}
 use Rattle.std.specs.Prelude.{Result, Ok, Err, None, Some, MatchResult}
 use Rattle.std.specs.Result.{result_ok}
-use borrow.Author.Tests.{lt-ltb, le-ltb, eq-eqb, ne_eqb}
+use borrow.Author.Tests.{ltb-false, lt-ltb, le-ltb, eq-eqb, ne_eqb}
 use Rattle.codes.specs.Answer.{Gives, nodes, answer, count_of, parsed, row}
 use Rattle.checks.specs.Checks.{or, unequal, input_check, checked}
+use Rattle.checks.proofs.Laws.{neither, same}
 use Rattle.penne.specs.Promise.{Parsed, Promise, Type'}
 use Rattle.penne.specs.Promise.{Expression as Expression'}
 use Rattle.penne.proofs.Promises.{counted}
@@ -82,13 +83,27 @@ module _ (bytes : List ℕ) where
       second-of (ltb (length bytes) sizes_before_kinds) _
       (second-of (ltb program_tokens (tokens_of bytes)) _ (second-of t _ g))
 
-  pub good :
+  pub not_bad :
       sizes_before_kinds ≤ length bytes → {n : ℕ} → n ≡ size_at bytes 0 → n ≤ program_tokens →
       length bytes ≡ sizes_before_kinds + n + n → {m : ℕ} → m ≡ size_at bytes 8 → m < 2 → bad bytes ≡ false
   unfolding bad
-  good h e b d {m} f g =
+  not_bad h e b d {m} f g =
       let i : m ≤ 1 = omega arith in
       rw (le-ltb _ _ h, ← e, ← f, le-ltb _ _ b, eq-eqb _ _ d, le-ltb _ _ i) refl
+
+-- what an input is that is not bad
+pub record Good (bytes : List ℕ) : Type 0 where
+  pub sizes : sizes_before_kinds ≤ length bytes
+  pub tokens : tokens_of bytes ≤ program_tokens
+  pub all : length bytes ≡ sizes_before_kinds + tokens_of bytes + tokens_of bytes
+
+pub good : {bytes : List ℕ} → bad bytes ≡ false → Good bytes
+unfolding bad
+good {bytes} e =
+    let (a, f) = neither (ltb (length bytes) sizes_before_kinds) _ e in
+    let (b, g) = neither (ltb program_tokens (tokens_of bytes)) _ f in
+    let (c, _) = neither (unequal (length bytes) (sizes_before_kinds + tokens_of bytes + tokens_of bytes)) _ g in
+    record { sizes = ltb-false _ _ a; tokens = ltb-false _ _ b; all = same _ _ c }
 
 -- the entry with this number, if there is one
 pub no-entry :
@@ -129,7 +144,7 @@ question-read bytes h {n} e b d l f question i k t c =
     let y = ap length d in
     let z : length bytes ≡ sizes_before_kinds + n + n = omega arith in
     record {
-      good = good bytes h e b z f (omega arith);
+      good = not_bad bytes h e b z f (omega arith);
       entry = i ∙ f;
       row = rw (← e) (row_read bytes n z d k t);
       cursor = c;
@@ -151,18 +166,23 @@ module _ {ks ls : List ℕ} (u : length ks ≡ program_slots) (v : length ls ≡
         fits = record { count = omega arith; kinds = b ∙ u; loads = d ∙ v };
       }
 
-  module _ (R : Row) (c : ℕ) {entry : Entry} where
-    pub type-asked :
-        entry ≡ «Type» → Type' R c (nodes ks ls 0) r ks' ls' → Parses (asking R c (number_of entry)) c ks ls r ks' ls'
-    unfolding asking
-    type-asked i p = rw i (sized R c (type columns R Limit.Nesting) (type trees R Limit.Nesting) p)
-
+  module _ (R : Row) (c : ℕ) where
     pub expression-asked :
-        entry ≡ Expression → Expression' R c (nodes ks ls 0) r ks' ls' →
-        Parses (asking R c (number_of entry)) c ks ls r ks' ls'
+        {e : ℕ} → (e ≡ 1 → ⊥) → Expression' R c (nodes ks ls 0) r ks' ls' → Parses (asking R c e) c ks ls r ks' ls'
     unfolding asking
     expression-asked i p =
-        rw i (sized R c (expression columns R Limit.Nesting) (expression trees R Limit.Nesting) p)
+        rw (ne_eqb _ _ i) (sized R c (expression columns R Limit.Nesting) (expression trees R Limit.Nesting) p)
+
+    module _ {entry : Entry} where
+      pub type-asked :
+          entry ≡ «Type» → Type' R c (nodes ks ls 0) r ks' ls' → Parses (asking R c (number_of entry)) c ks ls r ks' ls'
+      unfolding asking
+      type-asked i p = rw i (sized R c (type columns R Limit.Nesting) (type trees R Limit.Nesting) p)
+
+      pub expression-entry :
+          entry ≡ Expression → Expression' R c (nodes ks ls 0) r ks' ls' →
+          Parses (asking R c (number_of entry)) c ks ls r ks' ls'
+      expression-entry i p = rw i (expression-asked {e = 0} (λ q. omega arith) p)
 
 -- the reply and the nodes
 pub parse-put :
@@ -189,18 +209,23 @@ module _ (bytes : List ℕ) {xs ys : List ℕ} {end : ℕ} where
   bad-answered s e p = record { text = rw e p; kinds = rw e refl; loads = rw e refl }
 
   pub parse-answered :
-      (s : Nodes) {question : Question} → Asks bytes question → (r : Parsed) {ks ls : List ℕ} →
-      Gives (rule_of question) question.cursor.0 s r ks ls →
+      (s : Nodes) → bad bytes ≡ false → (r : Parsed) {ks ls : List ℕ} → Gives (asked bytes) (cursor_in bytes) s r ks ls →
       Puts xs 0 (parse r (nodes ks ls (count_of r))) ys end → Answers bytes s xs ys end ks ls
   unfolding output columns_after
-  parse-answered s a r {ks} {ls} g p =
-      let d : Gives (asked bytes) (cursor_in bytes) s r ks ls = rw (a.row, a.cursor, a.entry) at g in
+  parse-answered s e r {ks} {ls} d p =
       let o = asked bytes (cursor_in bytes) s in
       let c : count_of (answer parsed o.result o.cursor o.state.count) ≡ o.state.count =
       counted o.result _ _ in
       let t : parse r (nodes ks ls (count_of r)) ≡ shown o = rw (d.reply, d.kinds, d.loads, c) refl in
       record {
-        text = rw a.good (subst (λ (u : List ℕ). Puts xs 0 u ys end) t p);
-        kinds = rw a.good d.kinds;
-        loads = rw a.good d.loads;
+        text = rw e (subst (λ (u : List ℕ). Puts xs 0 u ys end) t p);
+        kinds = rw e d.kinds;
+        loads = rw e d.loads;
       }
+
+  -- the same, by the question of the input
+  pub question-answered :
+      (s : Nodes) {question : Question} → Asks bytes question → (r : Parsed) {ks ls : List ℕ} →
+      Gives (rule_of question) question.cursor.0 s r ks ls →
+      Puts xs 0 (parse r (nodes ks ls (count_of r))) ys end → Answers bytes s xs ys end ks ls
+  question-answered s a r g p = parse-answered s a.good r (rw (a.row, a.cursor, a.entry) at g) p

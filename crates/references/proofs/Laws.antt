@@ -22,6 +22,7 @@ use Rattle.tokens.specs.Answer.{kind_in, consumed, consuming, Optionally}
 use Rattle.tokens.proofs.Laws.{came-consumed, skipped, taken, found-next}
 use Rattle.tokens.proofs.Bounds.{in_row}
 use Rattle.nodes.specs.declared.ActiveList.{ActiveList}
+use Rattle.nodes.specs.declared.Turn.{Turn}
 use Rattle.nodes.specs.declared.Turn.TheVariants.{More}
 use Rattle.nodes.specs.Answer.{ends, active, listed, append_two}
 use Rattle.nodes.proofs.Laws.{active-ends, active-same, came-listed, plain-turning}
@@ -172,13 +173,18 @@ module _ (l : ActiveList) (index : ℕ) {tk : List ℕ} {c : ℕ} {s : Words} {r
   element-refused q = record { run = λ tv. hands_on _ stays (told (g.run tv) q) }
 
   pub element-read :
+      {v : Read NodeId} → r₁ ≡ Ok v → {r : ParseResult (Read (Turn ActiveList))} {ks : List ℕ} →
+      Unread stepped (stepping (ends l) v.value.0) v.cursor.0 (nodes ks₁ v.count) r ks →
+      Untyped stepped (elementing (ends l) index) tk c s r ks
+  unfolding elementing element_end closing stepping
+  element-read q d = record { run = λ tv. shows (reads _ (came-node (g.run tv) q)) (d.run (row tk tv)) }
+
+  -- the same, by the list with the step
+  pub element-listed :
       {v : Read NodeId} → r₁ ≡ Ok v → {o : ParseResult (Read ActiveList)} {ks : List ℕ} →
       As listed (push_list_item (ends l)) v.cursor.0 (nodes ks₁ v.count) o ks →
       Untyped stepped (elementing (ends l) index) tk c s (one_more o) ks
-  unfolding elementing element_end closing stepping
-  element-read {v} q {o} d = record {
-    run = λ tv. shows (reads _ (came-node (g.run tv) q)) ((step-read l v.value.0 o d).run (row tk tv));
-  }
+  element-listed {v} q {o} d = element-read q (step-read l v.value.0 o d)
 
 -- a step `.name`
 module _ (l : ActiveList) {tk : List ℕ} {c k : ℕ} {ns : List ℕ} {o : ParseResult TokenId}
@@ -198,15 +204,22 @@ module _ (l : ActiveList) {tk : List ℕ} {c k : ℕ} {ns : List ℕ} {o : Parse
     }
 
     pub member-read :
+        {v : Read NodeId} → r₁ ≡ Ok v → {r : ParseResult (Read (Turn ActiveList))} {ks : List ℕ} →
+        Unread stepped (stepping (ends l) v.value.0) v.cursor.0 (nodes ks₁ v.count) r ks →
+        Untyped stepped (membering (ends l)) tk c (nodes ns k) r ks
+    unfolding membering member consuming stepping
+    member-read q f = record {
+      run = λ tv.
+          shows (at_here _ then reads _ (came-consumed BaseToken.Identifier g p tv ns) then reads _ (came-node d q))
+          (f.run (row tk tv));
+    }
+
+    -- the same, by the list with the step
+    pub member-listed :
         {v : Read NodeId} → r₁ ≡ Ok v → {z : ParseResult (Read ActiveList)} {ks : List ℕ} →
         As listed (push_list_item (ends l)) v.cursor.0 (nodes ks₁ v.count) z ks →
         Untyped stepped (membering (ends l)) tk c (nodes ns k) (one_more z) ks
-    unfolding membering member consuming stepping
-    member-read {v} q {z} f = record {
-      run = λ tv.
-          shows (at_here _ then reads _ (came-consumed BaseToken.Identifier g p tv ns) then reads _ (came-node d q))
-          ((step-read l v.value.0 z f).run (row tk tv));
-    }
+    member-listed {v} q {z} f = member-read q (step-read l v.value.0 z f)
 
 -- Between two ampersands: what is left of the rule, whatever the value types and the words are.
 pub record Counting (tk : List ℕ) (start c k depth at : ℕ) : Type 0 where

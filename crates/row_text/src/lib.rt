@@ -8,9 +8,10 @@
 // A program may have other settings in the place of SLOTS, each a name and a number.
 #![tactic(auto)]
 
-ghost use Rattle.std.specs.Prelude.{◌≤◌, IfSome};
+ghost use Rattle.std.specs.Prelude.{◌≤◌, ◌≡◌, IfSome, IfErr, MatchResult};
+ghost use Rattle.lines.specs.Line.{Within};
 ghost use Rattle.row_text.specs.LineLimits as LineLimits;
-ghost use Rattle.row_text.specs.Read.{Fits, Setting};
+ghost use Rattle.row_text.specs.Read.{Fits, Setting, Shorter};
 
 use codes::ValueTypeKeyword;
 use lines::{after, number, skip, split_once, trim};
@@ -26,6 +27,9 @@ const ROW_TOKENS: usize = 512;
 
 pub const SLOTS: u32 = 512;
 
+// Kinds and value types are bytes.
+const BYTE: u32 = u8::MAX as u32;
+
 // What a line says besides its tokens.
 #[derive(Clone, Copy)]
 pub struct Row<'a> {
@@ -37,77 +41,119 @@ pub struct Row<'a> {
 fn whole_number(text: &[u8], most: u32) -> Option<u32>
     ensures { IfSome result (λ value. value ≤ most) }
 {
-    let (value, rest) = number(text, most)?;
+    let (value, rest) = number(text, most).ok()?;
     rest.is_empty().then_some(value)
 }
 
-// A kind or a value type.
-fn byte(text: &[u8]) -> Option<u8> {
-    u8::try_from(whole_number(text, u32::MAX)?).ok()
+// The kind or value type that begins the text, and what stands after it.
+fn byte(text: &[u8]) -> Option<(u8, &[u8])>
+    ensures { IfSome result (λ read. Shorter text.now read.1.now) }
+{
+    let (value, rest) = number(text, BYTE).ok()?;
+    Some((value as u8, rest))
 }
 
-// A token is put after those that are there.
-fn read_token(token: &[u8], tokens: &mut Tokens) -> Option<()>
-    ensures { tokens.old.count ≤ tokens.new.count }
+// The token that begins the text is put after those that are there. The result is what stands after it. Words are read
+// so, token by token: text that is first split at spaces, stars and commas is looked through once for each of these.
+fn read_token<'a>(text: &'a [u8], tokens: &mut Tokens) -> Option<&'a [u8]>
+    ensures rest { IfSome result (λ rest. Shorter text.now rest.now) }
+    ensures count { tokens.old.count ≤ tokens.new.count }
 {
-    let (kind, value_type) = match split_once(token, b'/') {
-        Some((kind, value_type)) => (byte(kind)?, byte(value_type)?),
-        None => (byte(token)?, ValueTypeKeyword::Int32),
+    let (kind, rest) = byte(text)?;
+    let (value_type, rest) = match after(rest, b"/") {
+        Some(rest) => byte(rest)?,
+        None => (ValueTypeKeyword::Int32, rest),
     };
-    tokens.push(kind, value_type)
+    tokens.push(kind, value_type)?;
+    Some(rest)
 }
 
-// Tokens with commas between them, and after a `*` how often they stand.
-fn read_word(word: &[u8], tokens: &mut Tokens) -> Option<()>
-    ensures { tokens.old.count ≤ tokens.new.count }
+// Tokens with commas between them, and after a `*` how often they stand. The result is what stands after the word.
+fn read_word<'a>(text: &'a [u8], tokens: &mut Tokens) -> Option<&'a [u8]>
+    ensures rest { IfSome result (λ rest. Shorter text.now rest.now) }
+    ensures count { tokens.old.count ≤ tokens.new.count }
 {
-    let (group, times) = match split_once(word, b'*') {
-        Some((group, times)) => (group, whole_number(times, u32::MAX)?),
-        None => (word, 1),
-    };
     let first = tokens.len();
-    for token in group.split(|byte| *byte == b',') {
-        read_token(token, tokens)?;
+    let mut rest = text;
+    loop {
+        rest = read_token(rest, tokens)?;
+        let Some(token) = after(rest, b",") else {
+            break;
+        };
+        rest = token;
     }
-    tokens.repeat(first, times as usize)
+    let Some(times) = after(rest, b"*") else {
+        return Some(rest);
+    };
+    let (times, rest) = number(times, u32::MAX).ok()?;
+    tokens.repeat(first, times as usize)?;
+    Some(rest)
 }
 
-// The tokens of a row, in place of those that are there.
-pub fn read_tokens(words: &[u8], tokens: &mut Tokens) -> Option<()>
-    ensures { tokens.new.count ≤ LineLimits.room }
+// The tokens of a row, in place of those that are there. Where they could not be read, what stands from the word on
+// that could not.
+pub fn read_tokens<'a>(words: &'a [u8], tokens: &mut Tokens) -> Result<(), &'a [u8]>
+    ensures count { tokens.new.count ≤ LineLimits.room }
+    ensures within { IfErr result (λ rest. Within words.now rest.now) }
 {
     tokens.clear();
-    let parts = words.split(|byte| *byte == b' ');
-    for word in parts.filter(|part| !part.is_empty()) {
-        read_word(word, tokens)?;
+    let mut rest = skip(words);
+    while !rest.is_empty() {
+        rest = skip(read_word(rest, tokens).ok_or(rest)?);
     }
-    Some(())
+    Ok(())
 }
 
-// The number after this name, if the name stands here, and what follows; else the other number, and the line. The
-// promise does not say which of the two, and those of read_tokens and read_row do not say what is read.
-pub fn setting<'a>(line: &'a [u8], name: &[u8], most: u32, other: u32) -> Option<(u32, &'a [u8])>
+// The number after this name, if the name stands here, and what follows; else the other number, and the line. Where the
+// number could not be read, what stands after its digits. The promise does not say which of the two numbers it is, and
+// those of read_tokens and read_row do not say what is read.
+pub fn setting<'a>(
+    line: &'a [u8],
+    name: &[u8],
+    most: u32,
+    other: u32,
+) -> Result<(u32, &'a [u8]), &'a [u8]>
     requires { other ≤ most }
-    ensures { IfSome result (λ read. Setting line.now most read.0 read.1.now) }
+    ensures { MatchResult result (λ read. Setting line.now most read.0 read.1.now)
+        (λ rest. Within line.now rest.now) }
 {
     let Some(inside) = after(line, name) else {
-        return Some((other, line));
+        return Ok((other, line));
     };
     let (value, rest) = number(skip(inside), most)?;
-    Some((value, skip(rest)))
+    Ok((value, skip(rest)))
 }
 
-// The row with its slots that a line says; its tokens are put in place of those that are there.
-pub fn read_row<'a>(line: &'a [u8], tokens: &mut Tokens) -> Option<Row<'a>>
-    ensures { IfSome result (λ row. Fits line.now row tokens.new.count) }
+// The slots that a line says, and what stands after the colon behind them.
+fn read_slots(said: &[u8]) -> Option<(usize, &[u8])>
+    ensures { IfSome result (λ read. read.0 ≤ LineLimits.slots) }
 {
-    let (text, inside) = split_once(line, b'#')?;
-    let (slots, words) = split_once(inside, b':')?;
+    let (slots, words) = split_once(said, b':')?;
     let slots = whole_number(trim(skip(slots)), SLOTS)?;
-    read_tokens(words, tokens)?;
-    let row = Row {
-        text: trim(text),
-        slots: slots as usize,
+    Some((slots as usize, words))
+}
+
+// The row with its slots that a line says; its tokens are put in place of those that are there. Where the line says no
+// row, its text, the slots if a colon follows them, else 0, and no tokens.
+pub fn read_row<'a>(line: &'a [u8], tokens: &mut Tokens) -> Result<Row<'a>, Row<'a>>
+    ensures { MatchResult result (λ row. Fits line.now row tokens.new.count)
+        (λ row. Fits line.now row tokens.new.count × (tokens.new.count ≡ 0)) }
+{
+    tokens.clear();
+    let Some((text, said)) = split_once(line, b'#') else {
+        return Err(Row {
+            text: trim(line),
+            slots: 0,
+        });
     };
-    (tokens.len() <= ROW_TOKENS).then_some(row)
+    let text = trim(text);
+    let Some((slots, words)) = read_slots(said) else {
+        return Err(Row { text, slots: 0 });
+    };
+    let row = Row { text, slots };
+    if read_tokens(words, tokens).is_err() || tokens.len() > ROW_TOKENS {
+        tokens.clear();
+        return Err(row);
+    }
+    Ok(row)
 }

@@ -86,10 +86,9 @@ impl Tokens {
         if end > TOKENS {
             return None;
         }
-        for turn in 1..times {
-            let place = first + turn * length;
-            self.kinds.copy_within(first..past, place);
-            self.types.copy_within(first..past, place);
+        for place in past..end {
+            self.kinds[place] = self.kinds[place - length];
+            self.types[place] = self.types[place - length];
         }
         self.count = end;
         Some(())

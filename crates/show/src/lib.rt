@@ -1,4 +1,4 @@
-// What the test programs print of a parse, as texts: the reply, and the nodes.
+// What the test programs print of a parse, as texts: the reply, and the nodes; and the writer that they print by.
 #![tactic(auto)]
 
 ghost use Rattle.std.specs.Prelude.{◌<◌, ◌≡◌, List, length, take, slice_get, map, Some};
@@ -7,6 +7,10 @@ ghost use Rattle.show.specs.Shown.{reply_text, nodes_text, node_of, nodes_in};
 
 use codes::{Node, Parsed};
 use std::fmt;
+
+mod writer;
+
+pub use writer::Unfailing;
 
 // What a test's slot holds before a node is appended there: a kind that no node has, and load 0.
 pub const UNUSED: u32 = 255;

@@ -9,7 +9,8 @@ ghost use Rattle.std.specs.Prelude.{◌≤◌, ◌<◌};
 
 use codes::{BaseToken, Refusal, TokenId, ValueTypeKeyword};
 use kinds::tokens_pass;
-use std::io;
+use show::Unfailing;
+use std::io::{Result, Write};
 
 // The longest row.
 const TOKENS: usize = 40;
@@ -94,9 +95,10 @@ fn by_kind_place(length: usize) -> usize
     right
 }
 
-fn main(rt: HostRuntime) -> io::Result<()> {
+fn main(rt: HostRuntime) -> Result<()> {
+    let mut out = Unfailing(rt.stdout());
     for length in 1..=TOKENS {
-        println!(rt; "{length} {}", by_kind_place(length))?;
+        writeln!(out, "{length} {}", by_kind_place(length))?;
     }
     Ok(())
 }

@@ -6,8 +6,8 @@ ghost use Rattle.std.specs.Prelude.{◌≡◌, ◌≤◌, length};
 ghost use Rattle.codes.specs.declared.limit.TheConstants.Limit as Limits;
 
 use codes::{BaseToken, Limit, TokenId, ValueTypeKeyword, node_count};
-use show::{Reply, Shown, UNUSED};
-use std::io;
+use show::{Reply, Shown, UNUSED, Unfailing};
+use std::io::{Result, Write};
 use tokens::Row;
 
 // The slots, of which a row is lent some.
@@ -120,7 +120,7 @@ const POINTER: [u8; 3] = [BaseToken::Ampersand, BaseToken::ValueTypeKeyword, 0];
 
 // The reply to a row, with so many slots. It stays apart from that of expression_rows, which has its tokens from a line
 // and calls another reader.
-fn show(rt: &impl Print, text: &str, row: Row<'_>, slots: usize) -> io::Result<()>
+fn show(out: &mut impl Write, text: &str, row: Row<'_>, slots: usize) -> Result<()>
     requires { (length row.types.now ≡ length row.kinds.now) × (length row.kinds.now ≤ Limits.Tokens)
         × (slots ≤ 8) }
 {
@@ -131,11 +131,11 @@ fn show(rt: &impl Print, text: &str, row: Row<'_>, slots: usize) -> io::Result<(
         nodes: &*node_words,
         count: node_count(reply) as usize,
     };
-    println!(rt; "{text}: {}{shown}", Reply(reply))
+    writeln!(out, "{text}: {}{shown}", Reply(reply))
 }
 
 // So many ampersands before i32.
-fn show_pointers(rt: &impl Print, text: &str, ampersands: usize) -> io::Result<()>
+fn show_pointers(out: &mut impl Write, text: &str, ampersands: usize) -> Result<()>
     requires { ampersands ≤ 40 }
 {
     let mut kinds = [BaseToken::Ampersand; 42];
@@ -145,24 +145,25 @@ fn show_pointers(rt: &impl Print, text: &str, ampersands: usize) -> io::Result<(
         kinds: &kinds,
         types: &[ValueTypeKeyword::Int32; 42],
     };
-    show(rt, text, row, SLOTS)
+    show(out, text, row, SLOTS)
 }
 
-fn main(rt: HostRuntime) -> io::Result<()> {
+fn main(rt: HostRuntime) -> Result<()> {
+    let mut out = Unfailing(rt.stdout());
     for (text, kinds) in ACCEPTED.iter().chain(&REFUSED) {
         let row = Row {
             kinds,
             types: &I32S,
         };
-        show(&rt, text, row, SLOTS)?;
+        show(&mut out, text, row, SLOTS)?;
     }
     for (slots, text) in TOO_FEW_SLOTS.iter().enumerate() {
         let row = Row {
             kinds: &POINTER,
             types: &[ValueTypeKeyword::Int32; 3],
         };
-        show(&rt, text, row, slots)?;
+        show(&mut out, text, row, slots)?;
     }
-    show_pointers(&rt, "33 39 &", 39)?;
-    show_pointers(&rt, "34 40 &", 40)
+    show_pointers(&mut out, "33 39 &", 39)?;
+    show_pointers(&mut out, "34 40 &", 40)
 }

@@ -1,6 +1,6 @@
 -- `casts::parse_casts` meets its contract: a law for each return, and what its loop keeps.
 use Rattle.codes.proofs.Onto.{returned}
-use Rattle.tokens.proofs.Bounds.{past-optional}
+use Rattle.tokens.proofs.Bounds.{past-found}
 use Rattle.casts.proofs.Bounds.{after-as, as-root, as-less}
 use Rattle.casts.proofs.Laws.{casts-first, casts-last, casts-stopped, casts-again}
 use borrow.Author.Rules.{rules}
@@ -10,7 +10,7 @@ pub loop-cursor-init : goal.loop-cursor-init
 loop-cursor-init c = (search rules, search rules, casts-first _ _ _ _ _ _)
 
 pub coerce-requires : goal.coerce-requires
-coerce-requires c = (search (rules, past-optional), search rules)
+coerce-requires c = (search (rules, past-found), search rules)
 
 pub returns-in_err-whole : goal.returns-in_err-whole
 returns-in_err-whole c = returned c.from_residual.ensures.1 (search (rules, casts-stopped, c.in_err-whole.was))

@@ -1,9 +1,6 @@
-use Rattle.checks.proofs.Laws.{passes, refuses}
-use borrow.Author.Rules.{rules}
+-- `checks::check_cursor` meets its contract: the row's check comes first.
+use Rattle.checks.proofs.Laws.{both}
 use Rattle.checks.proofs.check_cursor.Goals as goal
 
-pub returns-in_err-check_row : goal.returns-in_err-check_row
-returns-in_err-check_row c = search (rules, refuses, c.in_err-check_row.was, c.from_residual.ensures.1)
-
 pub returns : goal.returns
-returns c = search (rules, passes, c.in_ok-check_row.was)
+returns c = both _ _ c.check_row.ensures c.check_place.ensures c.and.ensures

@@ -4,12 +4,12 @@ use native.Mathlib.Omega.{arith}
 use borrow.Author.Rules.{rules}
 use Rattle.codes.proofs.Onto.{returned}
 use Rattle.nodes.proofs.Bounds.{slots}
-use Rattle.tokens.proofs.Bounds.{past-optional, past-token}
+use Rattle.tokens.proofs.Bounds.{past-found, past-token}
 use Rattle.expressions.proofs.Bounds.{past-term, term-slots, term_fits, past-factor, factor-slots, factor-fits}
 use Rattle.expressions.proofs.Bounds.{past-expression, expression-slots, expression-kept}
-use Rattle.expressions.proofs.Bounds.{past-name, colon-sized, list-sized, fields-sized, reference-sized, group-sized}
+use Rattle.expressions.proofs.Bounds.{past-name, colon-found, list-sized, fields-sized, reference-sized, group-sized}
 use Rattle.expressions.proofs.Bounds.{name-slots, owner-fits, fields_fit, after-deref, deref-fits}
-use Rattle.expressions.proofs.Bounds.{past-cast, cast-fits, after-cast-unary, cast-unary-fits, advance-slots, size-inside}
+use Rattle.expressions.proofs.Bounds.{past-cast, cast-fits, after-cast-unary, cast-unary-fits, advance-found, size-inside}
 use Rattle.expressions.proofs.Bounds.{operand-sized, past-operand, operand-slots}
 use Rattle.expressions.proofs.Operands.{first-term, sum-stopped, sum-refused, sum-read, sum-sized, sum_less, next_fits}
 use Rattle.expressions.proofs.Operands.{next-term, first-factor, product-stopped, product-bare, product-refused}
@@ -23,7 +23,7 @@ use Rattle.expressions.proofs.Laws.{singular-bare, singular-refused, singular-re
 use Rattle.expressions.proofs.Laws.{unary-plain, unary-refused, unary_read}
 use Rattle.expressions.proofs.Items.{first-item, none-fits, list-refused, list_read, turn-sized, turn-fits, turn-counts}
 use Rattle.expressions.proofs.Items.{turn-less, next-item, list-slots, list-fits, list-load}
-use Rattle.expressions.proofs.Steps.{index-refused, element-refused, element-read, member-refused, member-read}
+use Rattle.expressions.proofs.Steps.{index-refused, element-refused, element-listed, member-refused, member-listed}
 use Rattle.expressions.proofs.Steps.{step-none, more-sized, more-fits, last-slots, last_fits, first_step}
 use Rattle.expressions.proofs.Steps.{steps-exceeded, steps-refused, steps-read, next-step}
 use Rattle.expressions.proofs.+expression.Goals.{step-in-5+in_ok-index-in-5+in_ok-longer-in-5}
@@ -99,14 +99,14 @@ pub advance-returns-in_default : goal.advance-returns-in_default
 advance-returns-in_default t c = search (rules, advance-none)
 
 pub advance-parse_expression-requires : goal.advance-parse_expression-requires
-advance-parse_expression-requires t c = (search rules, search (rules, past-optional))
+advance-parse_expression-requires t c = (search rules, search (rules, past-found))
 
 pub advance-returns-in_err-offset : goal.advance-returns-in_err-offset
 advance-returns-in_err-offset t c = returned c.from_residual.ensures.1 (search (rules, advance-refused, c.in_err-offset.was))
 
 pub advance-push_binary-requires : goal.advance-push_binary-requires
 advance-push_binary-requires t c = (
-  search (rules, advance-slots, c.in_ok-offset.was),
+  search (rules, advance-found, c.in_ok-offset.was),
   record { op = omega arith; left = search rules; at = search rules },
 )
 
@@ -158,7 +158,7 @@ pub field-returns-in_default : goal.field-returns-in_default
 field-returns-in_default t c = search (rules, field-short, c.in_ok-cursor.was)
 
 pub field-parse_expression-requires : goal.field-parse_expression-requires
-field-parse_expression-requires t c = (search rules, search (rules, colon-sized, c.in_ok-cursor.was))
+field-parse_expression-requires t c = (search rules, search (rules, colon-found, c.in_ok-cursor.was))
 
 pub field-returns-in_err-value : goal.field-returns-in_err-value
 field-returns-in_err-value t c = returned c.from_residual-in_err-value.ensures.1 (search (rules, field-refused, c.in_ok-cursor.was, c.in_err-value.was))
@@ -168,7 +168,7 @@ field-finish_field-requires t c =
     let p = c.requires in
     let h = c.consume.ensures in
     let e = c.in_ok-cursor.was in
-    let z = colon-sized h e p.0 c.consume_optional.ensures c.in-Some.is in
+    let z = colon-found h e p.0 c.consume_optional.ensures c.in-Some.is in
     let g = c.parse_expression.ensures in
     let q = c.in_ok-value.was in (
       past-expression _ g q z,
@@ -369,7 +369,7 @@ step-returns t c =
           rw (w.longer-is, w.node_words-is)
           (search (
             rules,
-            element-read,
+            element-listed,
             c.peek.ensures,
             w.in-5.is,
             w.parse_expression.ensures,
@@ -379,7 +379,7 @@ step-returns t c =
           ))
       | step-in-21+in_ok-longer-in-21 w ↦
           rw (w.longer-is, w.node_words-is)
-          (search (rules, member-read, c.peek.ensures, w.in-21.is, w.parse_member.ensures, w.in_ok-longer-in-21.was))
+          (search (rules, member-listed, c.peek.ensures, w.in-21.is, w.parse_member.ensures, w.in_ok-longer-in-21.was))
     ]
 
 pub step-returns-in_default : goal.step-returns-in_default

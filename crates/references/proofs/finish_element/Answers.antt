@@ -3,7 +3,7 @@ use mathlib.Core.Path.{refl}
 use native.Mathlib.Omega.{arith}
 use Rattle.references.proofs.Bounds.{after-closed}
 use Rattle.codes.proofs.Onto.{exits}
-use Rattle.references.proofs.Laws.{element-refused, element-read}
+use Rattle.references.proofs.Laws.{element-refused, element-listed}
 use borrow.Author.Rules.{rules}
 use Rattle.references.proofs.finish_element.Goals as goal
 
@@ -15,4 +15,4 @@ push_list_item-requires c =
     let (a, b, _) = after-closed _ _ _ c.push_closed.ensures c.in_ok-cursor.was refl c.requires.1 in (a, omega arith)
 
 pub returns : goal.returns
-returns c = search (rules, element-read, c.in_ok-cursor.was)
+returns c = search (rules, element-listed, c.in_ok-cursor.was)

@@ -2,7 +2,7 @@
 use native.Mathlib.Omega.{arith}
 use Rattle.nodes.proofs.Bounds.{after_push}
 use Rattle.codes.proofs.Onto.{exits}
-use Rattle.references.proofs.Laws.{member-unnamed, member-refused, member-read}
+use Rattle.references.proofs.Laws.{member-unnamed, member-refused, member-listed}
 use borrow.Author.Rules.{rules}
 use Rattle.references.proofs.parse_member.Goals as goal
 
@@ -23,4 +23,4 @@ push_list_item-requires c =
     (a, omega arith)
 
 pub returns : goal.returns
-returns c = search (rules, member-read, c.in_ok-cursor.was, c.in_ok-cursor-2.was)
+returns c = search (rules, member-listed, c.in_ok-cursor.was, c.in_ok-cursor-2.was)

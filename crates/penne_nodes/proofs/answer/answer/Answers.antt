@@ -1,6 +1,6 @@
 -- `penne_nodes::answer::answer` meets its contract: by whether the file is bad.
 use Rattle.std.proofs.Common.{rules}
-use Rattle.penne_nodes.proofs.Laws.{bad-answered, parse-answered, parse-put, nodes-room}
+use Rattle.penne_nodes.proofs.Laws.{bad-answered, question-answered, parse-put, nodes-room}
 use Rattle.penne_nodes.proofs.answer.answer.Goals as goal
 
 pub returns-in_default-clause-answers : goal.returns-in_default-clause-answers
@@ -14,4 +14,4 @@ put_nodes-requires-clause-room c =
 pub returns-clause-answers : goal.returns-clause-answers
 returns-clause-answers c =
     let p = parse-put _ _ _ c.node_count.ensures c.put_reply.ensures c.put_nodes.ensures in
-    parse-answered _ _ c.in-Some.ensures _ c.parse-reply.ensures.gives (search rules)
+    question-answered _ _ c.in-Some.ensures _ c.parse-reply.ensures.gives (search rules)
