@@ -71,7 +71,8 @@ pub struct Row<'a> {
     pub sizes: Sizes,
 }
 
-// The entry that is named here, and what follows; the line where none is named.
+// The entry that is named here, and what follows; the line where none is named. Of what follows, and of what could not be
+// read, these promises say that it is an end of the line, and not which.
 fn read_entry(line: &[u8]) -> Result<(Entry, &[u8]), &[u8]>
     ensures { MatchResult result (λ read. Within line.now read.1.now) (λ rest. Within line.now rest.now) }
 {

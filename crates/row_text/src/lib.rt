@@ -105,8 +105,9 @@ pub fn read_tokens<'a>(words: &'a [u8], tokens: &mut Tokens) -> Result<(), &'a [
 }
 
 // The number after this name, if the name stands here, and what follows; else the other number, and the line. Where the
-// number could not be read, what stands after its digits. The promise does not say which of the two numbers it is, and
-// those of read_tokens and read_row do not say what is read.
+// number could not be read, what stands after its digits. The promise does not say which of the two numbers it is, nor
+// which end of the line a refusal has. That of read_tokens does not say the latter either, and like that of read_row not
+// what is read.
 pub fn setting<'a>(
     line: &'a [u8],
     name: &[u8],
